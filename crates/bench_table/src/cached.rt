@@ -19,7 +19,8 @@ pub(crate) trait Cached: Drop {
     /// Puts an absent key, and returns whether it is in.
     fn put(&mut self, key: u64) -> bool;
 
-    /// Looks a key up, which makes its pair the most recently used, and returns whether it is there.
+    /// Looks a key up, which makes its pair the most recently used, and returns whether it is
+    /// there.
     fn touch(&mut self, key: u64) -> bool;
 }
 

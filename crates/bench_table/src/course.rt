@@ -77,8 +77,8 @@ fn run_ends<M: Measured>(
     print_time(rt, wants_times, "sweep", start, pairs)
 }
 
-/// Prints what an insertion costs in a map that was large enough from the start, and then a removal,
-/// where the map keeps its size.
+/// Prints what an insertion costs in a map that was large enough from the start, and then a
+/// removal, where the map keeps its size.
 pub(crate) fn run_large<M: Measured>(
     rt: &HostRuntime,
     wants_times: bool,

@@ -51,7 +51,8 @@ fn answer_input<R: Read + Drop, W: Write>(
 ) -> Result<(), Stop>
     ensures { (bytes : List ℕ) × IsInput (R.remaining input) bytes × MatchResult result
         (λ _. HasAnswered (lines_of bytes) (W.contents output.old) (W.contents output.new) [])
-        (λ stop. IsOutputUpTo stop (lines_of bytes) (W.contents output.old) (W.contents output.new)) }
+        (λ stop. IsOutputUpTo stop (lines_of bytes)
+        (W.contents output.old) (W.contents output.new)) }
 {
     let mut lines = Lines::new(alloc, input)?;
     let mut session = Session::new(alloc)?;
@@ -68,7 +69,8 @@ fn answer_lines<R: Read + Drop, W: Write>(
     requires goes_on { lines.old.is_ended ≡ false }
     requires fresh { HasTaken (W.contents output.old) (W.contents output.old) session.old [] }
     ensures { (bytes : List ℕ) × IsInput lines.old.left bytes
-        × HasEnded result (W.contents output.old) (W.contents output.new) session.new (lines_of bytes) }
+        × HasEnded result (W.contents output.old) (W.contents output.new)
+        session.new (lines_of bytes) }
 {
     let mut number = 0;
     for turn in 0..u64::MAX {

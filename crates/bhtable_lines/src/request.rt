@@ -206,7 +206,8 @@ fn call_in(model: Call<u64, u64>, words: &mut Words<'_>) -> Option<Call<u64, u64
     ensures asked { IfSome result (λ call. ((call_line call).0 ≡ (call_line model).0)
         × Begins words.old (Request.Call call) words.new) }
     ensures refused { IfNone result ((call : Call ℕ ℕ) (rest : List Part)
-        → (call_line call).0 ≡ (call_line model).0 → Begins words.old (Request.Call call) rest → ⊥) }
+        → (call_line call).0 ≡ (call_line model).0
+        → Begins words.old (Request.Call call) rest → ⊥) }
 {
     Some(match model {
         Call::Put(..) => Call::Put(words.number()?, words.number()?),

@@ -12,7 +12,8 @@ use std::alloc::AllocError;
 
 /// Appends a reply's line.
 pub(crate) fn append_reply(text: &mut Vec<u8>, reply: &Reply<u64, u64>) -> Result<(), AllocError>
-    ensures appended { OnOk result (text.new.items ≡ text.old.items ++ line_of (text_of reply.now)) }
+    ensures appended { OnOk result (text.new.items
+        ≡ text.old.items ++ line_of (text_of reply.now)) }
     ensures kept { OnErr result (StartsWith text.new.items text.old.items) }
 {
     match *reply {

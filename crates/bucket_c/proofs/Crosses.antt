@@ -63,4 +63,5 @@ pub Held-send : IsSend held.the_row
 Held-send =
     let O = held.the_type in
     let all : AllSend (fields O) = (search sendable, (search (crosses, sendable) depth 20, tt)) in
-    owning_send O all (λ d. owned-Keyless d.alloc d.at d.table) (λ k. quiet (to O) (exits_of k (fields O)) ((struct_send (shape O) all).leaving k))
+    owning_send O all (λ d. owned-Keyless d.alloc d.at d.table)
+    (λ k. quiet (to O) (exits_of k (fields O)) ((struct_send (shape O) all).leaving k))

@@ -101,9 +101,9 @@ pub extern "C" fn bucket_clear(alloc: Global, handle: &mut Handle) -> u32
 
 /// Makes room for so many pairs more.
 ///
-/// Returns `OK`; `NO_MEMORY` if allocation fails, or if they are too many for every array: all pairs
-/// stay. `CLOSED`; `OTHER_KIND` of a cache, which has the capacity that it was made with. O(slots).
-/// `HashMap::try_reserve`.
+/// Returns `OK`; `NO_MEMORY` if allocation fails, or if they are too many for every array: all
+/// pairs stay. `CLOSED`; `OTHER_KIND` of a cache, which has the capacity that it was made with.
+/// O(slots). `HashMap::try_reserve`.
 #[unsafe(no_mangle)]
 pub extern "C" fn bucket_reserve(alloc: Global, handle: &mut Handle, additional: usize) -> u32
     ensures { ReservesMore additional handle.old.held.table result handle.new.held.table }

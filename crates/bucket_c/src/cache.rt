@@ -133,7 +133,8 @@ pub extern "C" fn bucket_cache_remove(
     key: u64,
     value: &mut u64,
 ) -> u32
-    ensures { OnCache (λ old code new. TakesOne nat_eq (nat_eq key) value.old old code new value.new)
+    ensures { OnCache
+        (λ old code new. TakesOne nat_eq (nat_eq key) value.old old code new value.new)
         (value.new ≡ value.old) handle.old.held.table result handle.new.held.table }
 {
     on_table!(handle, alloc, Cache(cache) => caches::remove(cache, &key, value))

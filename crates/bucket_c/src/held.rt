@@ -56,7 +56,8 @@ impl Held {
         self.into_parts().into_box()
     }
 
-    /// Lends the table, by `&mut` to a reader too: an export can't take a struct with `also_shares`.
+    /// Lends the table, by `&mut` to a reader too: an export can't take a struct with
+    /// `also_shares`.
     pub fn table(&mut self) -> &mut Table
         requires { is_some self.old.table ≡ true }
         ensures* writes_back { sem 𝓛 (lends_table self.entry result) }

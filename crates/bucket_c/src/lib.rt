@@ -1,10 +1,11 @@
-//! Maps, sets, a store and caches of the library `collections` for C: a handle that C carries, and a
-//! code for each answer.
+//! Maps, sets, a store and caches of the library `collections` for C: a handle that C carries, and
+//! a code for each answer.
 //!
 //! A call that changes the table takes it out of its handle, makes one call of `bucket_calls`, and
 //! puts it back; one that reads is lent the table where it lies. A call requires nothing of its
 //! caller: on a closed handle, and on one of another kind, it answers by a code.
-//! `specs/Tables.antt` says what a clause means there. The codes and the seed are of `bucket_calls`.
+//! `specs/Tables.antt` says what a clause means there. The codes and the seed are of
+//! `bucket_calls`.
 //!
 //! `held.rt` keeps the table's block as a pointer, and `parts.rt` takes a box apart: their proofs
 //! alone follow the pointer. `bindings/bucket.h` declares the calls for C.

@@ -104,14 +104,15 @@ pub extern "C" fn bucket_map_remove(
     key: u64,
     value: &mut u64,
 ) -> u32
-    ensures { OnMap (λ old code new. RemovesOne nat_eq (nat_eq key) value.old old code new value.new)
+    ensures { OnMap
+        (λ old code new. RemovesOne nat_eq (nat_eq key) value.old old code new value.new)
         (value.new ≡ value.old) handle.old.held.table result handle.new.held.table }
 {
     on_table!(handle, alloc, Map(map) => maps::remove(map, &key, value))
 }
 
-/// Adds to the value under a key, modulo 2^64, or inserts the key beside what is to be added; writes
-/// out the sum.
+/// Adds to the value under a key, modulo 2^64, or inserts the key beside what is to be added;
+/// writes out the sum.
 ///
 /// Returns `OK` if the key was absent, `PRESENT` if it was there; `NO_MEMORY` if allocation fails,
 /// and all stays. O(1) expected. `HashMap::get_mut`, `HashMap::insert`.

@@ -1,5 +1,5 @@
-//! Exports: a cache from byte strings to words. `put` and `upsert` copy a key that the cache hasn't,
-//! and can fail for that; no other call copies it.
+//! Exports: a cache from byte strings to words. `put` and `upsert` copy a key that the cache
+//! hasn't, and can fail for that; no other call copies it.
 //!
 //! Each call but `new` also returns `CLOSED` and `OTHER_KIND`, and then does nothing.
 ghost use Rattle.std.specs.Prelude.{◌≡◌};

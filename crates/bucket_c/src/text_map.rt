@@ -1,5 +1,5 @@
-//! Exports: a map from byte strings to words. An insertion copies a key that the map hasn't, and can
-//! fail for that; no other call copies it.
+//! Exports: a map from byte strings to words. An insertion copies a key that the map hasn't, and
+//! can fail for that; no other call copies it.
 //!
 //! Each call but `new` also returns `CLOSED` and `OTHER_KIND`, and then does nothing.
 ghost use Rattle.std.specs.Prelude.{◌≡◌, ℕ};
@@ -119,8 +119,8 @@ pub extern "C" fn bucket_text_map_remove(
     on_table!(handle, alloc, TextMap(map) => maps::remove(map, key, value))
 }
 
-/// Adds to the value under a key, modulo 2^64, or inserts the key beside what is to be added; writes
-/// out the sum.
+/// Adds to the value under a key, modulo 2^64, or inserts the key beside what is to be added;
+/// writes out the sum.
 ///
 /// Returns `OK` if the key was absent, `PRESENT` if it was there; `NO_MEMORY` if allocation fails,
 /// and all stays. O(1) expected. `HashMap::get_mut`, `HashMap::insert`.

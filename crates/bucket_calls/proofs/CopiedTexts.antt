@@ -1,5 +1,6 @@
 -- What is in two buffers, where the pieces of a list were copied to them in turn.
-use Rattle.std.proofs.Common.{ℕ, zero, suc, ◌≡◌, ◌+◌, ◌-◌, ◌<◌, ◌≤◌, ◌∙◌, Bool, true, false, List, [], ◌∷◌, ◌++◌, length, drop, refl, sym, ap, subst, arith, length-append, length-set}
+use Rattle.std.proofs.Common.{ℕ, zero, suc, ◌≡◌, ◌+◌, ◌-◌, ◌<◌, ◌≤◌, ◌∙◌, Bool, true, false, List, [], ◌∷◌, ◌++◌, length, drop}
+use Rattle.std.proofs.Common.{refl, sym, ap, subst, arith, length-append, length-set}
 use lib.Seq.{paste}
 use Rattle.std.proofs.lemmas.Bool.{leb-true, leb-false, lt-ltb, le-leb, lt-leb}
 use Rattle.std.proofs.lemmas.List.{drop_all, length-map}
@@ -48,7 +49,8 @@ idle : (skip count end : ℕ) (rows : List TextPair) (bytes : List ℕ) (pieces 
     → Copies (place skip 0 count end, rows, bytes) pieces last → Went count end rows bytes [] last
 idle skip count end rows bytes [] last is = none_went skip 0 count end rows bytes last is
 idle (suc skip) count end rows bytes (piece ∷ pieces) last went =
-    idle skip count end rows bytes pieces last (subst (λ s. Copies s pieces last) (went.1 ∙ passes skip 0 count end rows bytes piece) went.2)
+    idle skip count end rows bytes pieces last
+    (subst (λ s. Copies s pieces last) (went.1 ∙ passes skip 0 count end rows bytes piece) went.2)
 idle zero count end rows bytes (piece ∷ pieces) last went =
     idle zero count end rows bytes pieces last (subst (λ s. Copies s pieces last) went.1 went.2)
 

@@ -1,6 +1,7 @@
 -- What a call does to a cache, by the code that it answers: some answer of the library's call has this code, and the library's
 -- clauses hold of that answer.
-use Rattle.std.specs.Prelude.{ℕ, ◌≡◌, ◌++◌, Bool, List, Option, Some, None, Result, Ok, Err, drop, is_some, length, option_map, take, unwrap_or}
+use Rattle.std.specs.Prelude.{ℕ, ◌≡◌, ◌++◌, Bool, List, Option, Some, None, Result, Ok, Err, drop, is_some, length, option_map}
+use Rattle.std.specs.Prelude.{take, unwrap_or}
 use Rattle.std.specs.declared.alloc.AllocFailed.{AllocFailed}
 use Rattle.bucket_table.specs.Views.ArraysView.{TableView}
 use Rattle.bucket_table.specs.declared.hash_table.NotInserted.{NotInserted}

@@ -6,7 +6,8 @@ use Rattle.collections.specs.Maps.{MapView}
 use Rattle.bucket_calls.specs.Codes.{room_code}
 
 -- room is made by the library's call, whose answer has the code
-pub record MakesRoomBy {K V H : Type 0} (eq : K → K → Bool) (additional : ℕ) (old : MapView K V H) (code : ℕ) (new : MapView K V H) : Type 0 where
+pub record MakesRoomBy {K V H : Type 0} (eq : K → K → Bool) (additional : ℕ) (old : MapView K V H) (code : ℕ)
+    (new : MapView K V H) : Type 0 where
   pub answer : Result (Unit {0}) AllocError
   pub code_is : code ≡ room_code answer
   pub makes : MakesRoom eq additional old answer new

@@ -15,7 +15,8 @@ module _ (key : List ℕ) where
   InsertsText value old code new = InsertsCopy text_eq text_hash (has_bytes key) (0 < length key) value old code new
 
   abbrev pub UpsertsText : {V : Type 0} → V → V → Maps Text V → ℕ → Maps Text V → V → Type 0
-  UpsertsText value before old code new after = UpsertsCopy text_eq text_hash (has_bytes key) (0 < length key) value before old code new after
+  UpsertsText value before old code new after =
+      UpsertsCopy text_eq text_hash (has_bytes key) (0 < length key) value before old code new after
 
   abbrev pub AddsToText : ℕ → ℕ → Maps Text ℕ → ℕ → Maps Text ℕ → ℕ → Type 0
   AddsToText amount before old code new after = AddsTo text_eq text_hash (has_bytes key) (0 < length key) amount before old code new after

@@ -47,7 +47,9 @@ module _ {K V H : Type 0} (eq : K → K → Bool) where
 
   module _ (old new : MapView K V H) (key : K) (value : V) where
     put_cases : {A : Type 0} (held : Option V) → (Adds eq old key value new → A)
-        → ((own : K) (before : V) → Replaces eq old (eq key) (own, before) value new → A) → MatchOption held (Adds eq old key value new) (λ before. (own : K) × Replaces eq old (eq key) (own, before) value new) → A
+        → ((own : K) (before : V) → Replaces eq old (eq key) (own, before) value new → A)
+        → MatchOption held (Adds eq old key value new) (λ before. (own : K) × Replaces eq old (eq key) (own, before) value new)
+        → A
     put_cases None adds replaces put = adds put
     put_cases (Some before) adds replaces put = replaces put.0 before put.1
 

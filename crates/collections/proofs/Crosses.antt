@@ -13,7 +13,8 @@ use Rattle.collections.specs.contracts.hash_map.HashMap as map
 use Rattle.collections.specs.contracts.hash_set.HashSet as set
 use Rattle.collections.proofs.room.Fits.TheSendSync as fits
 
-module _ (K V H : RattleType) (equiv : equivalence.Ghosts K.Denot) (equal : equals.Ghosts K.Denot) (hashing : key_hash.Ghosts H.Denot K.Denot) where
+module _ (K V H : RattleType) (equiv : equivalence.Ghosts K.Denot) (equal : equals.Ghosts K.Denot)
+    (hashing : key_hash.Ghosts H.Denot K.Denot) where
   pub HashMap-send : IsSend K → IsSend V → IsSend H → IsSend (map.the_field K V H equiv equal hashing).row
   HashMap-send sk sv sh = search (HashTable-send, fits.the_send, crosses, sendable) depth 30
 
@@ -32,11 +33,21 @@ module _ (K V H : RattleType) (equiv : equivalence.Ghosts K.Denot) (equal : equa
   pub HashCache-sync : IsSync K → IsSync V → IsSync H → IsSync (cache.the_field K V H equiv equal hashing).row
   HashCache-sync yk yv yh = search (HashTable-sync, listed.the_sync, fits.the_sync, crosses, sendable) depth 30
 
-module _ (K H : RattleType) (equiv : equivalence.Ghosts K.Denot) (equal : equals.Ghosts K.Denot) (hashing : key_hash.Ghosts H.Denot K.Denot) where
+module _ (K H : RattleType) (equiv : equivalence.Ghosts K.Denot) (equal : equals.Ghosts K.Denot)
+    (hashing : key_hash.Ghosts H.Denot K.Denot) where
   pub HashSet-send : IsSend K → IsSend H → IsSend (set.the_field K H equiv equal hashing).row
   HashSet-send sk sh = search (HashMap-send, crosses, sendable) depth 30
 
   pub HashSet-sync : IsSync K → IsSync H → IsSync (set.the_field K H equiv equal hashing).row
   HashSet-sync yk yh = search (HashMap-sync, crosses, sendable) depth 30
 
-pub ruleset collections_cross = (HashMap-send, HashMap-sync, HashSet-send, HashSet-sync, HashIndex-send, HashIndex-sync, HashCache-send, HashCache-sync)
+pub ruleset collections_cross = (
+  HashMap-send,
+  HashMap-sync,
+  HashSet-send,
+  HashSet-sync,
+  HashIndex-send,
+  HashIndex-sync,
+  HashCache-send,
+  HashCache-sync,
+)

@@ -266,7 +266,8 @@ module _ {K V H : Type 0} (hash_of : H → K → ℕ) (key : K) (old new : Table
       → result ≡ Err (Memory k v) → LacksBucket hash_of key (map_of old)
   put_lacks eq result k v map finds is =
       put_by k v finds.answer finds.between
-      (subst (λ (r : Result (Option (K × V)) (NotInserted K V)). Puts eq key value (state_of 67 old) r (state_of 67 new)) is map).1 finds.found
+      (subst (λ (r : Result (Option (K × V)) (NotInserted K V)). Puts eq key value (state_of 67 old) r (state_of 67 new)) is map).1
+      finds.found
       (subst (λ (r : Result (Option (K × V)) (NotInserted K V)).
       PutsAt keeps (key, value) (hash_of old.hasher key % 256) finds.between r finds.answer new) is finds.done)
 

@@ -10,8 +10,8 @@ use Rattle.collections.specs.Maps.{MapView, get, get_by}
 use Rattle.collections.proofs.Lookups.{IsForm, form_of_key}
 
 -- a hash that is known of keys stays so, where the hasher stays
-pub hash_stays : {K V H : Type 0} (eq : K → K → Bool) (hash_of : H → K → ℕ) (key : K) (hash : ℕ) (old new : MapView K V H) → Keeps eq old new
-    → hash ≡ hash_of old.hasher key → hash ≡ hash_of new.hasher key
+pub hash_stays : {K V H : Type 0} (eq : K → K → Bool) (hash_of : H → K → ℕ) (key : K) (hash : ℕ) (old new : MapView K V H)
+    → Keeps eq old new → hash ≡ hash_of old.hasher key → hash ≡ hash_of new.hasher key
 hash_stays eq hash_of key hash old new keeps is = is ∙ ap (λ h. hash_of h key) (sym keeps.hasher)
 
 pub hashes_stay : {K V H : Type 0} (eq : K → K → Bool) (hash_of : H → K → ℕ) (wants : K → Bool) (hash : ℕ) (old new : MapView K V H)

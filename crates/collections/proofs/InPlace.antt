@@ -9,8 +9,8 @@ use Rattle.std.proofs.lemmas.List.{append_assoc, length-append, length-set, map-
 use Rattle.std.proofs.lemmas.List.Elements.{filter_map-append}
 use Rattle.std.proofs.lemmas.Map.Keys.{IsDistinct-head, IsDistinct-tail}
 use Rattle.bucket_slots.specs.ArrayView.{bucket_at}
-use Rattle.bucket_slots.specs.BucketView.{BucketView, Place, block_at, bucket_with_value, entries_in, flattened, pairs_in, row_at, rows_with}
-use Rattle.bucket_slots.specs.BucketView.{slot_in, with_slot_at}
+use Rattle.bucket_slots.specs.BucketView.{BucketView, Place, block_at, bucket_with_value, entries_in, flattened, pairs_in, row_at}
+use Rattle.bucket_slots.specs.BucketView.{rows_with, slot_in, with_slot_at}
 use Rattle.bucket_slots.specs.Slots.{Slot, live, live_entries, live_entry, live_pair, slot_at, slot_with_value}
 use Rattle.bucket_slots.proofs.CallerLemmas.{length-entries_in, live_is}
 use Rattle.bucket_table.specs.Map.Lending.{with_value}

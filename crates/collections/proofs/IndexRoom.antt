@@ -85,7 +85,8 @@ module _ {K V : Type 0} where
     full bucket laws none =
         let own = own_full bucket (is_full_with_marks bucket.own) refl none in
         let pairs = length-live_pairs-append bucket.own (flattened bucket.chain) in
-        let marks : kept keeps (marks_in bucket) ≡ kept keeps (marked_entries bucket.own) ++ kept keeps (marked_entries (flattened bucket.chain)) =
+        let marks : kept keeps (marks_in bucket)
+        ≡ kept keeps (marked_entries bucket.own) ++ kept keeps (marked_entries (flattened bucket.chain)) =
         ap (kept keeps) (filter_map-append marked_entry bucket.own (flattened bucket.chain))
         ∙ filter-append (λ mark. keeps mark.1) (marked_entries bucket.own) (marked_entries (flattened bucket.chain)) in
         let long = laws.own_long in

@@ -86,7 +86,8 @@ module _ {K V : Type 0} (keeps : ℕ → Bool) where
         let is = found kind hash old.arrays at.0 at.1 between.arrays finds.found in
         no_new-trans _ _ _ (on_side between.arrays at.0) (found_side old.arrays at.0 at.1 is.ready between.arrays is.makes is.grown)
     found_current (Err e) refused =
-        no_new-trans _ _ _ (on_side between.arrays Current) (in_buckets old.arrays.current between.arrays.current refused.prepared.kept.order.stay)
+        no_new-trans _ _ _ (on_side between.arrays Current)
+        (in_buckets old.arrays.current between.arrays.current refused.prepared.kept.order.stay)
 
     -- what the table inserts
     pub inserted_keeps : {A : Type 0} (r : Result A (NotInserted K V)) (answer : Result (Side × ℕ) (Unit {0}))

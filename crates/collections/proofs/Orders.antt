@@ -92,7 +92,8 @@ module _ {K V H : Type 0} (hash : ℕ) (old new : TableView K V H) where
     left true between (side, index, at, stands, shrinks) = elim (removed_ends between.arrays side index _ new.arrays shrinks) [
       | inl is ↦ inr (side, index, at, stands, inl is)
       | inr (inl gone) ↦ inl (none_left _ new.arrays gone)
-      | inr (inr (capacity, pushed)) ↦ inr (side, index, at, stands, pushed_from side between.arrays index at stands.within _ capacity pushed)
+      | inr (inr (capacity, pushed)) ↦
+          inr (side, index, at, stands, pushed_from side between.arrays index at stands.within _ capacity pushed)
     ]
       where
         pushed_from : (side : Side) (arrays : ArraysView K V) (index : ℕ) (at : Place) → index < length (buckets_on arrays side)

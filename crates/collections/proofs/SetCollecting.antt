@@ -59,7 +59,8 @@ module _ {K H : Type 0} (eq : K → K → Bool) (laws : IsEquivalence eq) where
         let there : eq q key ≡ true → contains eq old q ≡ true =
         λ hit. ap (λ (o : Option (Unit {0})). is_some o) (lookup_same eq laws q key old.entries hit) ∙ is in
         ap (λ (o : Option (Unit {0})). is_some o) (s.gets q) ∙ same_or (contains eq old q) (eq q key) there)
-        (λ a. ap (λ (o : Option (Unit {0})). is_some o) (a.updates q) ∙ ap (λ (b : Bool). is_some (cond b (Some tt) (get eq old q))) (laws.symm key q)
+        (λ a. ap (λ (o : Option (Unit {0})). is_some o) (a.updates q)
+        ∙ ap (λ (b : Bool). is_some (cond b (Some tt) (get eq old q))) (laws.symm key q)
         ∙ some_or (eq q key) (get eq old q))
         put
 

@@ -79,7 +79,8 @@ module _ {K V : Type 0} where
       subst (λ (a : ArraysView K V). HasNoNewMark (marks_among a.linked) (marks_among old.current)) (sym pushed.new_is)
       (ready old index between makes)
   found_side old Current index between new makes same =
-      subst (λ (a : ArraysView K V). HasNoNewMark (marks_among a.current) (marks_among old.current)) (sym same) (ready old index between makes)
+      subst (λ (a : ArraysView K V). HasNoNewMark (marks_among a.current) (marks_among old.current)) (sym same)
+      (ready old index between makes)
 
   -- the marks of one array are marks
   pub on_side : (arrays : ArraysView K V) (side : Side) → HasNoNewMark (marks_of arrays) (marks_among (buckets_on arrays side))
@@ -87,7 +88,8 @@ module _ {K V : Type 0} where
   on_side arrays Old = no_new-rest (marks_among arrays.current) (marks_among arrays.linked)
 
   module _ (keeps : ℕ → Bool) where
-    kept_in : (marks : List ((K × V) × ℕ)) (mark : (K × V) × ℕ) → Contains marks mark → keeps mark.1 ≡ true → Contains (kept keeps marks) mark
+    kept_in : (marks : List ((K × V) × ℕ)) (mark : (K × V) × ℕ) → Contains marks mark → keeps mark.1 ≡ true
+        → Contains (kept keeps marks) mark
     kept_in [] mark has stays = absurd (omega (arith, has.1))
     kept_in (x ∷ marks) mark (zero, below, is) stays =
         let passes : keeps x.1 ≡ true = ap (λ (m : (K × V) × ℕ). keeps m.1) is ∙ stays in

@@ -45,7 +45,8 @@ module _ {K V H : Type 0} where
 
   -- room is made for a number of additional pairs, by the least number of slots for them all, or by the present ones, unless allocation
   -- fails, and no slot is freed; if there is room already, or if the pairs are too many, nothing changes
-  pub record MakesRoom {E : Type 0} (eq : K → K → Bool) (more : ℕ) (old : MapView K V H) (answer : Result (Unit {0}) E) (new : MapView K V H) : Type 0 where
+  pub record MakesRoom {E : Type 0} (eq : K → K → Bool) (more : ℕ) (old : MapView K V H) (answer : Result (Unit {0}) E)
+      (new : MapView K V H) : Type 0 where
     pub stays : Stays eq old new
     pub room : OnOk answer (HasRoomFor more new)
     pub slots : OnOk answer ((HasRoomFor more old → ⊥) → TakesSlots (map_len old + more) old new)
@@ -55,7 +56,8 @@ module _ {K V H : Type 0} where
 
   -- the minimum is 0, and as few slots are left as the pairs take, unless allocation fails; if there are as few already, nothing else
   -- changes, and the call succeeds for a map without pairs
-  pub record ShrinksToFit {E : Type 0} (eq : K → K → Bool) (old : MapView K V H) (answer : Result (Unit {0}) E) (new : MapView K V H) : Type 0 where
+  pub record ShrinksToFit {E : Type 0} (eq : K → K → Bool) (old : MapView K V H) (answer : Result (Unit {0}) E)
+      (new : MapView K V H) : Type 0 where
     pub stays : Stays eq (record old { minimum = 0 }) new
     pub fitted : OnOk answer (IsFitted new)
     pub ready : IsFitted old → (answer ≡ Ok tt) × (new ≡ record old { minimum = 0 })

@@ -137,7 +137,8 @@ module _ {K V H : Type 0} (eq : K → K → Bool) where
 
   -- a function is called with each pair in turn, from one state to the next: those that it keeps are left, with the values last written,
   -- and the slots stay, the old ones too
-  pub record Retains {S : Type 0} (step : S → Bor K → MutBor V → Bool → MutBor V → S → Type 0) (first : S) (old new : MapView K V H) (last : S) : Type 0 where
+  pub record Retains {S : Type 0} (step : S → Bor K → MutBor V → Bool → MutBor V → S → Type 0) (first : S)
+      (old new : MapView K V H) (last : S) : Type 0 where
     pub asked : RetainsEach step first old.entries new.entries last
     pub kept : Keeps eq old new
     pub slots : new.slots ≡ old.slots

@@ -27,7 +27,8 @@ pub record KeepsSlots {K V H : Type 0} (eq : K → K → Bool) (old new : MapVie
 module _ {K V H F : Type 0} {puts : put_back.Ghosts (ExtractView K V) (MapView K V H)} (eq : K → K → Bool) where
   -- a step of a map's iterator, which still holds the same map
   pub record ExtractsIf (step : F → Bor K → MutBor V → Bool → MutBor V → F → Type 0)
-      (old : Extraction (MapView K V H) F (ExtractView K V) puts) (picked : Option (K × V)) (new : Extraction (MapView K V H) F (ExtractView K V) puts) : Type 0 where
+      (old : Extraction (MapView K V H) F (ExtractView K V) puts) (picked : Option (K × V))
+      (new : Extraction (MapView K V H) F (ExtractView K V) puts) : Type 0 where
     pub same_map : new.from.ghost_name ≡ old.from.ghost_name
     pub extracted : Extracts MAP (AsksPair step) old.test old.taken picked new.taken new.test
     pub keeps : KeepsSlots eq (extract_map old) (extract_map new)
@@ -39,7 +40,8 @@ AsksKey asks first pair answer last later = CalledAt asks first pair.0 answer la
 module _ {K H F : Type 0} {puts : put_back.Ghosts (ExtractView K (Unit {0})) (MapView K (Unit {0}) H)} (eq : K → K → Bool) where
   -- a step of a set's iterator, which still holds the same set
   pub record ExtractsKeyIf (asks : Mut F (Bor K × Unit {0}) Bool)
-      (old : Extraction (MapView K (Unit {0}) H) F (ExtractView K (Unit {0})) puts) (picked : Option K) (new : Extraction (MapView K (Unit {0}) H) F (ExtractView K (Unit {0})) puts) : Type 0 where
+      (old : Extraction (MapView K (Unit {0}) H) F (ExtractView K (Unit {0})) puts) (picked : Option K)
+      (new : Extraction (MapView K (Unit {0}) H) F (ExtractView K (Unit {0})) puts) : Type 0 where
     pub same_set : new.from.ghost_name ≡ old.from.ghost_name
     pub gone : Option (K × Unit {0})
     pub picked_is : picked ≡ option_map (λ pair. pair.0) gone

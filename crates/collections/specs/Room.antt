@@ -14,7 +14,9 @@ use Rattle.bucket_table.specs.Views.TableRow.{table_row}
 module _ (K V H : RattleType) (equal : equals.Ghosts K.Denot) (hashing : key_hash.Ghosts H.Denot K.Denot) where
   -- the table of a map
   abbrev pub MapFits : Type 0
-  MapFits = FitsInMemory (table_row K V H Nothing (number 83) equal hashing (record { KEEPS = false; listed = λ _ _. []; IsTail = λ _ tail. tail ≡ 0 }) (record { is_default = λ _. Unit {0} }))
+  MapFits = FitsInMemory
+      (table_row K V H Nothing (number 83) equal hashing
+      (record { KEEPS = false; listed = λ _ _. []; IsTail = λ _ tail. tail ≡ 0 }) (record { is_default = λ _. Unit {0} }))
 
 module _ (K V H : RattleType) (equal : equals.Ghosts K.Denot) (hashing : key_hash.Ghosts H.Denot K.Denot) where
   -- the table of a cache
@@ -30,4 +32,6 @@ module _ (K H : RattleType) (equal : equals.Ghosts K.Denot) (hashing : key_hash.
 module _ (K V H : RattleType) (equal : equals.Ghosts K.Denot) (hashing : key_hash.Ghosts H.Denot K.Denot) where
   -- the table of an index
   abbrev pub IndexFits : Type 0
-  IndexFits = FitsInMemory (table_row K V H Nothing (number 79) equal hashing (record { KEEPS = false; listed = λ _ _. []; IsTail = λ _ tail. tail ≡ 0 }) (record { is_default = λ _. Unit {0} }))
+  IndexFits = FitsInMemory
+      (table_row K V H Nothing (number 79) equal hashing
+      (record { KEEPS = false; listed = λ _ _. []; IsTail = λ _ tail. tail ≡ 0 }) (record { is_default = λ _. Unit {0} }))

@@ -223,8 +223,8 @@ impl<K: Eq, V, H: KeyHash<K>> HashCache<K, V, H> {
         value_by(&self.table, key)
     }
 
-    /// Returns the pair under a key, or under the keys that a form stands for, and doesn't touch it:
-    /// the cache's own key, and its value; `None` if the cache hasn't the key.
+    /// Returns the pair under a key, or under the keys that a form stands for, and doesn't touch
+    /// it: the cache's own key, and its value; `None` if the cache hasn't the key.
     ///
     /// Moves nothing, and takes no memory. O(1) expected. Own: std's `HashMap::get_key_value`.
     #[inline(always)]

@@ -290,8 +290,8 @@ impl<K: Eq + Drop, V: Drop, H: KeyHash<K>> HashIndex<K, V, H> {
             (map_of self.new) }
         ensures marks { MarksBy (G.epoch_of generation.now) (marks_of self.old.arrays)
             (marks_of self.new.arrays) }
-        ensures marked { MarksRemoved (Q.stands_for key) (G.epoch_of generation.now) (is_some result)
-            self.old.arrays self.new.arrays }
+        ensures marked { MarksRemoved (Q.stands_for key) (G.epoch_of generation.now)
+            (is_some result) self.old.arrays self.new.arrays }
         ensures slots { LosesSlots (is_some result) (map_of self.old) (map_of self.new) }
     {
         self.room.learn();

@@ -72,7 +72,8 @@ impl<'s, A: Allocator, S: BuildHasher> KeyForm<String<A>, StdHash<S>> for &'s st
         hasher.builder.hash_one(self)
     }
 
-    ghost alike = { λ form key other. nat_list_eq_equiv.congr form.now (string_bytes key) (string_bytes other) };
+    ghost alike = { λ form key other. nat_list_eq_equiv.congr form.now
+        (string_bytes key) (string_bytes other) };
 }
 
 /// A slice stands for the vectors that have its items.
@@ -89,7 +90,8 @@ impl<'s, T: Eq + Hash, A: Allocator, S: BuildHasher> KeyForm<Vec<T, A>, StdHash<
         hasher.builder.hash_one(self)
     }
 
-    ghost alike = { λ form key other. (lists_equiv T.Eq.laws).congr form.now key.items other.items };
+    ghost alike = { λ form key other. (lists_equiv T.Eq.laws).congr form.now
+        key.items other.items };
 }
 
 /// A probe for the keys that a form stands for. Own.

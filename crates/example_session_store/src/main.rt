@@ -11,7 +11,8 @@ use crate::store::{NotLoggedIn, Store};
 use std::io::{self, BufRead, BufReader, ErrorKind};
 
 const USAGE: &str =
-    "not one of: login TOKEN USER NOW, find TOKEN NOW, touch TOKEN NOW, logout TOKEN, expire NOW, count";
+    "not one of: login TOKEN USER NOW, find TOKEN NOW, touch TOKEN NOW, logout TOKEN, expire NOW, \
+     count";
 
 /// How many slots the store has.
 const SLOTS: usize = 64;

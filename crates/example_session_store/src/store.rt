@@ -7,8 +7,8 @@ ghost use Rattle.std.specs.Prelude.{◌≡◌, ℕ, nat_eq, not, None, IfErr, If
 ghost use Rattle.std.specs.Option.{option_copied};
 ghost use Rattle.collections.specs.Maps.{IsUnique, map_of};
 ghost use Rattle.example_session_store.specs.Sessions.{alive_at, Becomes, deadline_at, expired_len};
-ghost use Rattle.example_session_store.specs.Sessions.{has_expired, IsForCause, len_of, LogsIn, Renews};
-ghost use Rattle.example_session_store.specs.Sessions.{session_at, sessions_with};
+ghost use Rattle.example_session_store.specs.Sessions.{has_expired, IsForCause, len_of, LogsIn};
+ghost use Rattle.example_session_store.specs.Sessions.{Renews, session_at, sessions_with};
 
 use collections::DefaultHash;
 use collections::hash_cache::{HashCache, NotInserted};
@@ -76,7 +76,8 @@ impl Store {
         now: u64,
     ) -> Result<Option<(u64, Session)>, NotLoggedIn>
         ensures logged_in { IfOk result (λ evicted. LogsIn token
-            (record { user = user; deadline = deadline_at self.old now }) evicted self.old self.new) }
+            (record { user = user; deadline = deadline_at self.old now }) evicted
+            self.old self.new) }
         ensures cause { IfErr result (IsForCause (session_at self.old token)) }
         ensures unchanged { OnErr result (Becomes (session_at self.old) self.old self.new) }
     {
@@ -133,7 +134,8 @@ impl Store {
         let dropped = self.expired_len(now);
         self.sessions.retain(
             &mut move |_token: &u64, session: &mut Session|
-                ensures { (result ≡ not (has_expired now session.old)) × (session.new ≡ session.old) }
+                ensures { (result ≡ not (has_expired now session.old))
+                    × (session.new ≡ session.old) }
             { !session.has_expired(now) },
         );
         dropped

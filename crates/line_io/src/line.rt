@@ -62,7 +62,8 @@ impl<R: Read> Model for Lines<R> {
 }
 
 impl<R: Read + Drop> Lines<R> {
-    ghost use Rattle.std.specs.Prelude.{ℕ, ◌⊎◌, ◌<◌, true, false, List, [], ◌++◌, take, drop, IfErr, IfOk, OnErr};
+    ghost use Rattle.std.specs.Prelude.{ℕ, ◌⊎◌, ◌<◌, true, false, List, [], ◌++◌, take, drop};
+    ghost use Rattle.std.specs.Prelude.{IfErr, IfOk, OnErr};
     ghost use Rattle.std.specs.Io.KnownBytes.{Consumes, IsAtEnd, Keeps};
     ghost use Rattle.line_io.specs.Found.{IsFoundIn, IsWithin};
 

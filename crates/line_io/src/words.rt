@@ -5,7 +5,8 @@
 ghost use Rattle.std.specs.Prelude.{◌≡◌, ℕ, ◌<◌, ◌≤◌, true, false, List, [], ◌∷◌, is_some, length};
 ghost use Rattle.std.specs.Prelude.{take, drop, slice_index, IfSome, MatchOption};
 ghost use Rattle.line_io.specs.Numbers.{is_number, value_of};
-ghost use Rattle.line_io.specs.Words.{Part, number, is_blank, part_of, parts_of, with_word, words_of};
+ghost use Rattle.line_io.specs.Words.{Part, number, is_blank, part_of, parts_of};
+ghost use Rattle.line_io.specs.Words.{with_word, words_of};
 
 use std::marker::Model;
 

@@ -13,8 +13,8 @@ pub(crate) type Counted<const TYPE: u8> = Bucket<u64, Rc<u64>, (), TYPE>;
 /// The hash of each key.
 const HASH: u64 = 0;
 
-/// Puts a clone of the value under each key from 0 on, and returns the block and the position of the
-/// last one.
+/// Puts a clone of the value under each key from 0 on, and returns the block and the position of
+/// the last one.
 pub(crate) fn put_keys<const TYPE: u8>(
     bucket: &mut Counted<TYPE>,
     keys: u64,

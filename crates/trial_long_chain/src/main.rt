@@ -1,5 +1,5 @@
-//! Buckets with long chains: blocks that are reserved and given up, and pairs of one hash. It prints
-//! a line for each part.
+//! Buckets with long chains: blocks that are reserved and given up, and pairs of one hash. It
+//! prints a line for each part.
 //!
 //! Nothing here calls itself or keeps an array, so that the chain alone can need much of a stack:
 //! `trials/long_chain.sh` runs the program on a small one.

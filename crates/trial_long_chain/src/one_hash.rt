@@ -14,7 +14,8 @@ const FIRST: u64 = 32;
 /// last block. Keys from the second on are removed in reverse: each time the head has the pair.
 const REMOVED: (u64, u64) = (3_000, 5_000);
 
-/// Puts the keys, finds and walks them, takes most of them out, and drops the others with the bucket.
+/// Puts the keys, finds and walks them, takes most of them out, and drops the others with the
+/// bucket.
 pub(crate) fn come_and_go(rt: &HostRuntime) -> io::Result<()> {
     let counted = Rc::new(rt.alloc(), 0)?;
     let mut bucket = Counted::<MAP>::new(rt.alloc());

@@ -12,8 +12,8 @@ use test_helpers::{Chance, FewKeys, KEYS};
 // How many calls mostly insert pairs, and how many then mostly remove them.
 const TIDE: u64 = 4000;
 
-// After how many calls the collection is compared as a whole and copied, and one call is made on all
-// of it.
+// After how many calls the collection is compared as a whole and copied, and one call is made on
+// all of it.
 const WHOLE: u64 = 250;
 
 // An odd number with its bits spread, so that keys take homes all over the array.
@@ -65,8 +65,8 @@ impl Course {
         self.is_same()
     }
 
-    /// Copies the collection and makes a call on all of it, and returns whether the results are right
-    /// and the collection has the right pairs before, between and after.
+    /// Copies the collection and makes a call on all of it, and returns whether the results are
+    /// right and the collection has the right pairs before, between and after.
     fn call_whole(&mut self, cloned: bool) -> bool {
         let is_copied = self.is_same() && self.copy(cloned) && self.is_same();
         is_copied && self.call_on_all() && self.is_same()

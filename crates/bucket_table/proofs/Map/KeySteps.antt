@@ -45,7 +45,7 @@ module _ {K V : Type 0} where
       → place_wanted wants (n % 256) b ≡ None → pair_wanted wants (n % 256) (home_bucket n (buckets_on arrays side)) ≡ None
   none_at_home wants arrays side array b n index is lent home none =
       subst (λ (bs : List (BucketView K V)). pair_wanted wants (n % 256) (home_bucket n bs) ≡ None) is
-      (rw (← (home_bucket-is array n index home), ← lent) (ap (λ at. pair_at b at) none))
+      (rw (← home_bucket-is array n index home, ← lent) (ap (λ at. pair_at b at) none))
 
 module _ {K V : Type 0} (wants : K → Bool) (hash : K → ℕ) where
   -- neither home has a wanted key, so the map hasn't

@@ -76,15 +76,7 @@ module _ {K V H : Type 0} where
   pub taken_then : (a b d : MapState K V H) (p : K × V) → TakesPair a p b → KeepsPairs b d → TakesPair a p d
   taken_then a b d p takes keeps = record {
     pairs = IsPermutation-trans a.pairs (p ∷ b.pairs) (p ∷ d.pairs) takes.pairs (IsPermutation-cons p b.pairs d.pairs keeps.pairs);
-    others = keeps.others
-        ∙ ap (λ (m : MapState K V H). record {
-          kind = m.kind;
-          hasher = m.hasher;
-          minimum = m.minimum;
-          maximum = m.maximum;
-          pairs =
-              d.pairs;
-        }) takes.others;
+    others = keeps.others ∙ ap (λ (m : MapState K V H). record m { pairs = d.pairs }) takes.others;
   }
 
   pub taken_through : (kind : ℕ) (m : MapState K V H) (hasher : H) (a new : ArraysView K V) (p : K × V)

@@ -53,12 +53,6 @@ module _ {K V H : Type 0} where
   pub hasher_kept : (a b : MapState K V H) → KeepsPairs a b → b.hasher ≡ a.hasher
   hasher_kept a b keeps = ap (λ (m : MapState K V H). m.hasher) keeps.others
 
-  pub minimum_kept : (a b : MapState K V H) → KeepsPairs a b → b.minimum ≡ a.minimum
-  minimum_kept a b keeps = ap (λ (m : MapState K V H). m.minimum) keeps.others
-
-  pub maximum_kept : (a b : MapState K V H) → KeepsPairs a b → b.maximum ≡ a.maximum
-  maximum_kept a b keeps = ap (λ (m : MapState K V H). m.maximum) keeps.others
-
   -- what stays where the capacities do
   pub others_than_pairs : (kind : ℕ) (t s : TableView K V H) → s.hasher ≡ t.hasher → s.arrays.minimum ≡ t.arrays.minimum
       → s.arrays.maximum ≡ t.arrays.maximum → state_of kind s ≡ record (state_of kind t) { pairs = pairs_of s.arrays }

@@ -41,14 +41,11 @@ module _ {K V : Type 0} where
       let t = slots_left s gone in
       placed_own keeps t pair byte (position is_free t.own) refl (left_free s gone went)
 
-  same_chain : (s : BucketView K V) (gone : Option (K × V)) → (slots_left s gone).chain ≡ s.chain
-  same_chain s None = refl
-  same_chain s (Some pair) = refl
-
   -- the pair stands there, so the chain stays
   pub chain-slots_put : (keeps : Bool) (s : BucketView K V) (gone : Option (K × V)) (pair : K × V) (byte : ℕ) → Goes s gone
       → (slots_put keeps (slots_left s gone) pair byte).chain ≡ s.chain
-  chain-slots_put keeps s gone pair byte went = same_chain s gone
+  chain-slots_put keeps s None pair byte went = refl
+  chain-slots_put keeps s (Some gone) pair byte went = refl
 
   -- and a place is
   left_room : (s : BucketView K V) (gone : Option (K × V)) → Goes s gone → first_place is_free (slots_left s gone) ≡ None → ⊥

@@ -22,13 +22,7 @@ use Rattle.bucket_table.proofs.Map.PutSlots.{after_insertion-cache, touched_own}
 module _ {K V H : Type 0} where
   others_after : (a b d : MapState K V H) → b ≡ record a { pairs = b.pairs } → d ≡ record b { pairs = d.pairs }
       → d ≡ record a { pairs = d.pairs }
-  others_after a b d first then = then ∙ ap (λ (m : MapState K V H). record {
-    kind = m.kind;
-    hasher = m.hasher;
-    minimum = m.minimum;
-    maximum = m.maximum;
-    pairs = d.pairs;
-  }) first
+  others_after a b d first then = then ∙ ap (λ (m : MapState K V H). record m { pairs = d.pairs }) first
 
   -- a key that is absent is so once a pair is out
   absent_left : (eq : K → K → Bool) (key : K) (old left : MapState K V H) (gone : Option (K × V)) → Evicts {E = ℕ} old (Ok gone) left

@@ -8,13 +8,7 @@ module _ {K V H : Type 0} where
   pub then_taken : (a b d : MapState K V H) (p : K × V) → KeepsPairs a b → TakesPair b p d → TakesPair a p d
   then_taken a b d p keeps takes = record {
     pairs = IsPermutation-trans a.pairs b.pairs (p ∷ d.pairs) keeps.pairs takes.pairs;
-    others = takes.others ∙ ap (λ (m : MapState K V H). record {
-      kind = m.kind;
-      hasher = m.hasher;
-      minimum = m.minimum;
-      maximum = m.maximum;
-      pairs = d.pairs;
-    }) keeps.others;
+    others = takes.others ∙ ap (λ (m : MapState K V H). record m { pairs = d.pairs }) keeps.others;
   }
 
 module _ {K V : Type 0} (wants : K → Bool) where

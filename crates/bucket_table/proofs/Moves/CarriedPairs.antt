@@ -19,10 +19,6 @@ use Rattle.bucket_table.specs.Layout.Landings.{is_own_of}
 use Rattle.bucket_table.proofs.Moves.Exchanges.{exchanged}
 use Rattle.bucket_table.proofs.Moves.Staying.{get_or-front}
 
--- an element of the second of two lists stands behind those of the first
-get_or-behind : {X : Type 0} (xs ys : List X) (k : ℕ) (d : X) → get_or (xs ++ ys) (length xs + k) d ≡ get_or ys k d
-get_or-behind xs ys k d = get_or-append-add xs ys k d
-
 module _ {K V : Type 0} where
   abbrev pub keys : List (K × V) → List K
   keys pairs = map (λ (p : K × V). p.0) pairs
@@ -40,7 +36,7 @@ module _ {K V : Type 0} where
       (get_or-front xs ys here.0 q here.1 ∙ here.2) in
       let second : get_or (keys all) (length xs + there.0) q.0 ≡ p.0 =
       get_or-map (λ (r : K × V). r.0) all (length xs + there.0) p q.0 (omega (arith, there.1, long)) ∙ ap (λ (r : K × V). r.0)
-      (get_or-behind xs ys there.0 p ∙ there.2) in
+      (get_or-append-add xs ys there.0 p ∙ there.2) in
       ap (λ (k : K). eq k p.0) (sym first) ∙ ap (λ (k : K). eq (get_or (keys all) here.0 q.0) k) (sym second) ∙ apart
 
   abbrev pub pairs_among : List (BucketView K V) → List (K × V)

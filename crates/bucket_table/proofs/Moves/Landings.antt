@@ -1,8 +1,8 @@
 -- Where the pairs of a bucket's own slots land while they move one after another to their homes.
-use Rattle.bucket_table.proofs.Words.{BucketView, Contains, IsBucketOf, KeepsPlaces, Landing, List, MovesHome, None, Option, Place, Some}
-use Rattle.bucket_table.proofs.Words.{StandsInChain, WentFirst, ℕ, [], ap, arith, bucket_at, cases_eq, cases_lt, eq-eqb, false, false≢true}
+use Rattle.bucket_table.proofs.Words.{BucketView, IsBucketOf, KeepsPlaces, Landing, List, MovesHome, None, Option, Place, Some}
+use Rattle.bucket_table.proofs.Words.{StandsInChain, ℕ, [], ap, arith, bucket_at, cases_eq, cases_lt, eq-eqb, false, false≢true}
 use Rattle.bucket_table.proofs.Words.{first_place, get_or-set_same, homed_len, inl, inr, is_free, is_live, landing_of, length, length-set}
-use Rattle.bucket_table.proofs.Words.{length_permutation, listed_pairs, live_from_pair, live_not_free, live_pair, live_pairs, ne_eqb}
+use Rattle.bucket_table.proofs.Words.{length_permutation, listed_pairs, live_from_pair, live_not_free, live_pair, ne_eqb}
 use Rattle.bucket_table.proofs.Words.{pairs_in, pairs_in-slots_vacated, place_for_next, refl, replicate, set, slot_at, slot_in}
 use Rattle.bucket_table.proofs.Words.{slots_vacated, slots_with, subst, suc, sym, true, zero, ◌%◌, ◌<◌, ◌∙◌, ◌≡◌, ◌⊎◌}
 use Rattle.std.proofs.lemmas.List.{get_or-set_other, set_past}

@@ -1,9 +1,8 @@
 -- The marks of a bucket whose pairs move on: they stay where they are, also as the bucket is killed.
-use Rattle.bucket_table.proofs.Words.{Bool, BucketView, INDEX, IsBucketOf, List, Option, Place, Slot, Some, ℕ, [], all_slots, ap}
-use Rattle.bucket_table.proofs.Words.{append-nil, arith, block_at, cond, cons_option, false, filter_map-append, flattened, free, get_or}
-use Rattle.bucket_table.proofs.Words.{length, length-append, live, live_pair, marked, marks_in, nat_tests, nil_from_length, refl, row_at}
-use Rattle.bucket_table.proofs.Words.{rows_with, set, slot_at, slot_in, slots_vacated, suc, sum_by-cons, sym, true, zero, ◌++◌, ◌==◌, ◌∙◌}
-use Rattle.bucket_table.proofs.Words.{◌∷◌, ◌≡◌}
+use Rattle.bucket_table.proofs.Words.{Bool, BucketView, INDEX, IsBucketOf, List, Option, Slot, Some, ℕ, [], all_slots, ap, append-nil}
+use Rattle.bucket_table.proofs.Words.{arith, block_at, cond, cons_option, false, filter_map-append, flattened, free, get_or, length}
+use Rattle.bucket_table.proofs.Words.{length-append, live, live_pair, marked, marks_in, nat_tests, nil_from_length, refl, row_at, rows_with}
+use Rattle.bucket_table.proofs.Words.{set, slot_at, suc, sum_by-cons, sym, true, zero, ◌++◌, ◌==◌, ◌∙◌, ◌∷◌, ◌≡◌}
 use Rattle.std.specs.Prelude.{filter_map, flat_map, if◌then◌else◌}
 use Rattle.bucket_slots.proofs.PairsAfter.{live_is}
 use Rattle.bucket_slots.proofs.Entries.{filter_map-chain, filter_map-flattened}
@@ -33,7 +32,7 @@ module _ {K V : Type 0} where
   row_vacated slots pos p here =
       filter_map-alike marked_entry slots pos free free (sym (ap marked_entry (live_is (slot_at slots pos) p here).1))
 
-  marks_in-vacated_at : (s : BucketView K V) (block pos : ℕ) (p : K × V) → live_pair (slot_at (block_at s block) pos) ≡ Some p
+  pub marks_in-vacated_at : (s : BucketView K V) (block pos : ℕ) (p : K × V) → live_pair (slot_at (block_at s block) pos) ≡ Some p
       → marks_in (slots_vacated_at s block pos) ≡ marks_in s
   marks_in-vacated_at s zero pos p here =
       let chain = flattened s.chain in
@@ -45,10 +44,6 @@ module _ {K V : Type 0} where
       filter_map-chain marked_entry s rows (filter_map-flattened marked_entry rows
       ∙ flat_map-alike marked_entries s.chain i (set (row_at s.chain i) pos free) [] (row_vacated (row_at s.chain i) pos p here)
       ∙ sym (filter_map-flattened marked_entry s.chain))
-
-  pub marks_in-vacated : (s : BucketView K V) (at : Place) (p : K × V) → live_pair (slot_in s at) ≡ Some p
-      → marks_in (slots_vacated s at) ≡ marks_in s
-  marks_in-vacated s at p here = marks_in-vacated_at s at.block at.pos p here
 
   none_marked : (slots : List (Slot K V)) → marked_len slots ≡ 0 → marked_entries slots ≡ []
   none_marked [] none = refl

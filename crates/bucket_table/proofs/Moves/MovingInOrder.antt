@@ -1,8 +1,8 @@
 -- The pairs of a bucket, which go in the order of its slots where they move to their homes.
 use Rattle.bucket_table.proofs.Words.{All, All-cons, All-head, All-nil, All-tail, BucketView, Contains, IsBucketOf, List, None, Option}
-use Rattle.bucket_table.proofs.Words.{Place, Some, [], ap, append-nil, append_assoc, arith, bucket_at, cases_eq, false, inl, inr}
+use Rattle.bucket_table.proofs.Words.{Some, [], ap, append-nil, append_assoc, arith, bucket_at, cases_eq, false, inl, inr}
 use Rattle.bucket_table.proofs.Words.{is_free, length, live_from_pair, live_not_free, live_pair, live_pairs, pairs_in, refl, set, slot_at}
-use Rattle.bucket_table.proofs.Words.{slot_in, subst, suc, sym, true≢false, zero, ℕ, ◌%◌, ◌++◌, ◌<◌, ◌∙◌, ◌∷◌, ◌≡◌, ◌⊎◌}
+use Rattle.bucket_table.proofs.Words.{subst, suc, sym, true≢false, zero, ℕ, ◌++◌, ◌<◌, ◌∙◌, ◌∷◌, ◌≡◌}
 use Rattle.std.proofs.lemmas.List.Elements.{All-append}
 use Rattle.std.specs.List.{position}
 use Rattle.std.specs.Option.{option_or}

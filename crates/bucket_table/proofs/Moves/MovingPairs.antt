@@ -4,7 +4,7 @@ use Rattle.bucket_table.proofs.Words.{HasOwnByte, IsEntryHome, IsHome, IsInRange
 use Rattle.bucket_table.proofs.Words.{IsPermutation-append_right, IsPermutation-map, IsPermutation-refl, IsPermutation-trans, Landing, List}
 use Rattle.bucket_table.proofs.Words.{MovesHome, MovesInto, MovesToNext, None, Option, Place, Slot, Some, ℕ, [], ap, arith, bucket_at, cond}
 use Rattle.bucket_table.proofs.Words.{entries_among, entries_in, false, first_place, home_of, homed_len, is_free, landing_of, length}
-use Rattle.bucket_table.proofs.Words.{length-entries_in, live_pair, map-entries_in, marks_among, marks_in, nat_tests, nil_from_length}
+use Rattle.bucket_table.proofs.Words.{live_pair, map-entries_in, marks_among, marks_in, nat_tests}
 use Rattle.bucket_table.proofs.Words.{no_new-append, no_new-refl, no_new-trans, null_place, pairs_ahead, pairs_in, pairs_in-slots_vacated}
 use Rattle.bucket_table.proofs.Words.{refl, rotated, set, slot_in, slots_vacated, slots_with, subst, sum_by-cons, sym, true, ◌%◌, ◌++◌, ◌+◌}
 use Rattle.bucket_table.proofs.Words.{◌<◌, ◌==◌, ◌∙◌, ◌∷◌, ◌≡◌, ◌≤◌}
@@ -18,7 +18,7 @@ use Rattle.bucket_table.specs.Rehash.Relocation.{IsWay}
 use Rattle.bucket_table.proofs.Moves.Exchanges.{ChangesAt, changes_at, each_after, exchanged}
 use Rattle.bucket_table.proofs.Moves.HomesByDivision.{home_of-interval}
 use Rattle.bucket_table.proofs.Moves.Landings.{AreLanding, landing_first, landing_step}
-use Rattle.bucket_table.proofs.Moves.MarksLeft.{marks_in-vacated}
+use Rattle.bucket_table.proofs.Moves.MarksLeft.{marks_in-vacated_at}
 use Rattle.bucket_table.proofs.Views.MarksKept.{marks_among-set}
 use Rattle.bucket_table.proofs.Moves.MovingInOrder.{goes_on}
 use Rattle.bucket_table.proofs.Moves.Vacating.{walked}
@@ -46,9 +46,6 @@ module _ {K V : Type 0} (hash : K → ℕ) where
   homed_elsewhere len index p ps apart =
       let other : (home_of len (hash p.0) == index) ≡ false = grind (arith, nat_tests) in
       homed-cons len index p ps ∙ ap (λ (t : Bool). cond t 1 0 + homed_len hash len index ps) other ∙ omega arith
-
-  homed_fewer : (len index : ℕ) (p : K × V) (ps : List (K × V)) → homed_len hash len index ps ≤ homed_len hash len index (p ∷ ps)
-  homed_fewer len index p ps = omega (arith, homed-cons len index p ps)
 
   pub MovesInto-refl : (s : BucketView K V) (c : List (BucketView K V)) → MovesInto hash s c s c
   MovesInto-refl s c = record {
@@ -110,7 +107,7 @@ module _ {K V : Type 0} (hash : K → ℕ) where
     pairs_out = pairs_left s t p byte out
 
     fewer : (i : ℕ) → homed_len hash (length c) i (pairs_in t) ≤ homed_len hash (length c) i (pairs_in s)
-    fewer i = omega (arith, homed-permutation (length c) i (pairs_in s) (p ∷ pairs_in t) pairs_out, homed_fewer (length c) i p (pairs_in t))
+    fewer i = omega (arith, homed-permutation (length c) i (pairs_in s) (p ∷ pairs_in t) pairs_out, homed-cons (length c) i p (pairs_in t))
 
     fewer_here : homed_len hash (length c) j (pairs_in s) ≡ 1 + homed_len hash (length c) j (pairs_in t)
     fewer_here =
@@ -130,7 +127,8 @@ module _ {K V : Type 0} (hash : K → ℕ) where
     moved_one alive left there = record {
       entries =
           let taken : IsPermutation (entries_in s) ((p, h % 256) ∷ entries_in t) = rw (← byte_is) out in
-          IsPermutation-trans _ _ _ (IsPermutation-append_left (entries_among c) _ _ taken) (IsPermutation-trans _ _ _ (rotated ((p, h % 256) ∷ []) (entries_in t) (entries_among c))
+          IsPermutation-trans _ _ _ (IsPermutation-append_left (entries_among c) _ _ taken)
+          (IsPermutation-trans _ _ _ (rotated ((p, h % 256) ∷ []) (entries_in t) (entries_among c))
           (IsPermutation-append_right (entries_in t) _ _ moved));
       len = put.len;
       fewer = fewer;
@@ -222,7 +220,7 @@ module _ {K V : Type 0} (hash : K → ℕ) where
         let placed = exchanged ((p, h % 256) ∷ []) [] c j b one.way.home.within (entries_in-slots_with (bucket_at c j) p (h % 256)) in
         let there = marks_among-set c j b (marks_in-slots_with (bucket_at c j) p (h % 256)) in
         let moved = moved_one (slots_vacated s new) p h out.0 moving.ready out.1 one.way put placed
-        (killed-slots_vacated s new) (marks_in-vacated s new p one.here) there in
+        (killed-slots_vacated s new) (marks_in-vacated_at s new.block new.pos p one.here) there in
         let still = ready_still (slots_vacated s new) p h out.0 moving.ready out.1 one.way put placed in
         let landing : AreLanding hash s0 c0 (slots_vacated s new) (set c j b) said =
         rw (one.vacated, one.placed) at (landing_step hash moving.landing one homed_there

@@ -24,7 +24,7 @@ pub other_target : (from to i index j : ℕ) → IsLength from → IsLength to �
     → Meets from i to j → Meets from index to j → ⊥
 other_target from to i index j from_long to_long le below i_below index_below apart one two =
     let parts = one_source from to (to / from) j (scales from to from_long.power to_long.power le (omega (arith, to_long.at_most))) below in
-    apart (((parts.2 i i_below).0 one) ∙ sym ((parts.2 index index_below).0 two))
+    apart ((parts.2 i i_below).0 one ∙ sym ((parts.2 index index_below).0 two))
 
 module _ {K V : Type 0} where
   pub entries_alike : (c d : List (BucketView K V)) → length d ≡ length c
@@ -124,9 +124,6 @@ module _ {K V : Type 0} where
       put : ChangesAt index (slots_killed kind left) l0 l2
       put = rw l2_is (changes_at index (slots_killed kind left) l0 targets.within)
 
-      gone : pairs_in (bucket_at l2 index) ≡ []
-      gone = rw put.here (pairs_in-slots_killed kind left emptied)
-
       same_bucket : (j : ℕ) → (Meets (length l0) index (length c0) j → ⊥) → bucket_at c2 j ≡ bucket_at c0 j
       same_bucket j out =
           let outside : IsInRange start end j → ⊥ = λ r. out ((targets.range j).0 r) in
@@ -153,7 +150,7 @@ module _ {K V : Type 0} where
       pub relocated : IsRelocated index c0 l0 c2 l2
       relocated = record {
         killed = rw put.here refl;
-        empty = gone;
+        empty = rw put.here (pairs_in-slots_killed kind left emptied);
         entries = entries_moved;
         marks = rw (marks_among-kept c0 c1 kept, ← l2_is) at
             (marks_moved c1 l0 c2 index left (slots_killed kind left) moved.marks (marks_in-slots_killed kind left));

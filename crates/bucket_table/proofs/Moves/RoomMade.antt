@@ -17,7 +17,7 @@ use Rattle.bucket_slots.specs.Slots.{all_free, free_len}
 use Rattle.bucket_table.specs.Rehash.Relocation.{HasRoomFor, KeepsOthers}
 use Rattle.bucket_table.proofs.Moves.Exchanges.{ChangesAt, changes_at, each_after}
 use Rattle.bucket_table.proofs.Moves.MovingPairs.{homed_elsewhere}
-use Rattle.bucket_table.proofs.Moves.Staying.{place_with_blocks, stay_same}
+use Rattle.bucket_table.proofs.Moves.Staying.{blocks_other, stay_same}
 
 blocks_free : (K V : Type 0) (n : ℕ) → all_free (flattened (replicate {A = List (Slot K V)} n free_block)) ≡ true
 blocks_free K V zero = refl
@@ -95,7 +95,8 @@ module _ {K V : Type 0} where
         (λ v. vacant-blocks (bucket_at d j) n (kept.vacant j v)) (λ i apart. kept.vacant i);
     stay = λ i at. each_after put
         (λ k b. is_free (slot_in (bucket_at c k) at) ≡ false → slot_in b at ≡ slot_in (bucket_at c k) at)
-        (λ occupied. let here = kept.stay j at occupied in place_with_blocks (bucket_at d j) n at (ap is_free here ∙ occupied) ∙ here)
+        (λ occupied. let here = kept.stay j at occupied in
+        blocks_other (bucket_at d j) n at.block at.pos (ap is_free here ∙ occupied) ∙ here)
         (λ k apart. kept.stay k at) i;
     own = each_after put (λ i b. b.own ≡ (bucket_at c i).own) (kept.own j) (λ i apart. kept.own i);
     listed = each_after put (λ i b. b.listed ≡ (bucket_at c i).listed) (kept.listed j) (λ i apart. kept.listed i);

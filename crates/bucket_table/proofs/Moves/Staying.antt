@@ -74,18 +74,14 @@ module _ {K V : Type 0} where
       subst (λ (b : BucketView K V). slot_in (with_slot b next (live pair byte)) at ≡ slot_in s at) (sym made)
       (slot_other s next.block next.pos at.block at.pos (live pair byte) vacant occupied)
 
-  blocks_other : (s : BucketView K V) (n b p : ℕ) → is_free (slot_at (block_at s b) p) ≡ false
+  -- blocks are added at the chain's end
+  pub blocks_other : (s : BucketView K V) (n b p : ℕ) → is_free (slot_at (block_at s b) p) ≡ false
       → slot_at (block_at (with_free_blocks s n) b) p ≡ slot_at (block_at s b) p
   blocks_other s n zero p occupied = refl
   blocks_other s n (suc k) p occupied = elim (cases_lt k (length s.chain)) [
     | inl within ↦ ap (λ (row : List (Slot K V)). slot_at row p) (get_or-front s.chain (replicate n free_block) k [] within)
     | inr past ↦ absurd (no_row s.chain k p occupied (λ within. omega (arith, within, past)))
   ]
-
-  -- blocks are added at the chain's end
-  pub place_with_blocks : (s : BucketView K V) (n : ℕ) (at : Place) → is_free (slot_in s at) ≡ false
-      → slot_in (with_free_blocks s n) at ≡ slot_in s at
-  place_with_blocks s n at occupied = blocks_other s n at.block at.pos occupied
 
   -- or another list is there
   pub place_listed : (s : BucketView K V) (order : List ℕ) (block pos : ℕ)

@@ -15,9 +15,6 @@ IsGoingOn state = (64 * state.position < state.len) ⊎ ((unit : ℕ) × Contain
 has_head : (x : ℕ) (xs : List ℕ) → Contains (x ∷ xs) x
 has_head x xs = Contains-get_or (x ∷ xs) 0 x (omega arith)
 
-has_tail : (x y : ℕ) (xs : List ℕ) → Contains xs y → Contains (x ∷ xs) y
-has_tail x y xs there = Contains-append_right (x ∷ []) xs y there
-
 head_or_tail : (x y : ℕ) (xs : List ℕ) → Contains (x ∷ xs) y → (x ≡ y) ⊎ Contains xs y
 head_or_tail x y xs there = ⊎_elim (λ (h : Contains (x ∷ []) y). ⊎_elim (λ (n : Contains [] y). inr
     (Contains-append_left [] xs y n)) (λ (e : x ≡ y). inl e) (Contains-push_cases [] x y h)) (λ (h : Contains xs y). inr h)
@@ -35,7 +32,8 @@ covered_start killed before after ticket h covered =
           covered.units_in_range));
       done_or_open = λ unit below. ⊎_elim (λ (less : unit < before.position). ⊎_elim (λ (done : IsUnitKilled killed unit). inl done)
           (λ (there : Contains before.open_units unit). inr (Contains-permutation joined after.open_units unit h.open_is
-          (has_tail before.position unit before.open_units there))) (covered.done_or_open unit less)) (λ (le : before.position ≤ unit).
+          (Contains-append_right (before.position ∷ []) before.open_units unit there))) (covered.done_or_open unit less))
+          (λ (le : before.position ≤ unit).
           let next = h.position_is in
           let here : before.position ≡ unit = omega arith in
           inr (Contains-permutation joined after.open_units unit h.open_is

@@ -62,7 +62,7 @@ module _ {K V : Type 0} (old worked last : ArraysView K V) (started : TicketStat
       (ends_now (Err error) last.tickets ends.0))
   bag_ended (Ok true) ends =
       let (closes, goes) = closed old.tickets started ticket h success Killed true ends.0.0 (ends_now (Ok true) ends.0.0 ends.0.1) in
-      λ unit. rw ends.2 (rw ((goes.0 refl).1.0) at ((bag_closed old.tickets started ticket h success ends.0.0 closes) unit))
+      λ unit. rw ends.2 (rw (goes.0 refl).1.0 at (bag_closed old.tickets started ticket h success ends.0.0 closes unit))
   bag_ended (Ok false) ends =
       let (closes, goes) = closed old.tickets started ticket h success Killed false last.tickets
       (ends_now (Ok false) last.tickets ends.0) in

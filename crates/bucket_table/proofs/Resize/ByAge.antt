@@ -54,7 +54,7 @@ module _ {K V : Type 0} where
   slots_stay old new slot (first ∷ slots) others absent =
       let (isnt, later) = or_parts _ (is_listed slots slot) absent in
       let rest = slots_stay old new slot slots others later in
-      λ i. (others first (λ same. false≢true (sym isnt ∙ eq-eqb slot first (sym same)))) i ∷ rest i
+      λ i. others first (λ same. false≢true (sym isnt ∙ eq-eqb slot first (sym same))) i ∷ rest i
 
   -- of some slots the last one's pair comes first, and taking it leaves the others
   takes_at : (old new : BucketView K V) (slots : List ℕ) (i d : ℕ) → IsOnce slots → i < length slots

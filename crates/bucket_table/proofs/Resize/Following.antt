@@ -15,12 +15,9 @@ module _ {K V : Type 0} where
   new_bucket capacity fresh i new below = ap (λ (bs : List (BucketView K V)). bucket_at bs i) new.empty ∙ get_or-replicate
       (length fresh) i empty_bucket empty_bucket below
 
-  vacant_empty : IsVacant (empty_bucket {K = K} {V = V})
-  vacant_empty = record { free = refl; own_long = refl }
-
   pub new_vacant : (capacity : ℕ) (fresh : List (BucketView K V)) (i : ℕ)
       → IsNewArray capacity fresh → i < length fresh → IsVacant (bucket_at fresh i)
-  new_vacant capacity fresh i new below = rw (new_bucket capacity fresh i new below) vacant_empty
+  new_vacant capacity fresh i new below = rw (new_bucket capacity fresh i new below) (record { free = refl; own_long = refl })
 
   no_entries_new : (n : ℕ) → entries_among (replicate n (empty_bucket {K = K} {V = V})) ≡ []
   no_entries_new zero = refl

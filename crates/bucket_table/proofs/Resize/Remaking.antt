@@ -25,9 +25,6 @@ pub at_error : {A E : Type 0} (P : Type 0) (answer : Result A E) → P → OnErr
 at_error P (Ok x) is = tt
 at_error P (Err e) is = is
 
-no_error : {A E : Type 0} (x : A) (e : E) → Ok x ≡ Err e → ⊥
-no_error x e same = absurd cc
-
 -- there is one length for a capacity
 pub len_is_one : (capacity len other : ℕ) → IsLengthFor capacity len → IsLengthFor capacity other → len ≡ other
 len_is_one capacity len other (power, least, is) (again, again_least, again_is) =
@@ -84,7 +81,7 @@ module _ {K V A E : Type 0} (capacity : ℕ) (old begun second : ArraysView K V)
   still there = (nothing_on there).1 ∙ is ∙ unopened_alone old tickets law.tickets_len there.alone
 
   pub not_refused : (error : E) → answer ≡ Err error → IsSettledAt capacity old → ⊥
-  not_refused error was there = no_error done error (sym (nothing_on there).0 ∙ was)
+  not_refused error was there = let same : Ok done ≡ Err error = sym (nothing_on there).0 ∙ was in absurd cc
 
 module _ {K V : Type 0} (capacity : ℕ) (old second : ArraysView K V) (first : KeepsArrays (unopened old) second) where
   -- another length is wanted

@@ -12,13 +12,7 @@ module _ {K V H : Type 0} where
   kept a = record { pairs = IsPermutation-refl a.pairs; others = refl }
 
   pub others_after : (a b d : MapState K V H) → KeepsPairs a b → d ≡ record b { pairs = d.pairs } → d ≡ record a { pairs = d.pairs }
-  others_after a b d keeps others = others ∙ ap (λ (m : MapState K V H). record {
-    kind = m.kind;
-    hasher = m.hasher;
-    minimum = m.minimum;
-    maximum = m.maximum;
-    pairs = d.pairs;
-  }) keeps.others
+  others_after a b d keeps others = others ∙ ap (λ (m : MapState K V H). record m { pairs = d.pairs }) keeps.others
 
   -- another order, and then what the next call does
   pub then_kept : (a b d : MapState K V H) → KeepsPairs a b → KeepsPairs b d → KeepsPairs a d

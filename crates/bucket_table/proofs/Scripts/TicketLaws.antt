@@ -1,7 +1,6 @@
 -- An old array that went doesn't come back by calls of the rehash.
-use Rattle.bucket_table.proofs.Words.{All, Bool, Err, IsPermutation, List, None, NotDone, NotOpen, Ok, Option, Result, Run, Some, Starts}
-use Rattle.bucket_table.proofs.Words.{TicketError, TicketState, TicketStep, ℕ, [], arith, false, length_permutation, refl, suc, true, ◌∷◌}
-use Rattle.bucket_table.proofs.Words.{◌≡◌}
+use Rattle.bucket_table.proofs.Words.{All, Bool, Err, List, None, NotDone, NotOpen, Ok, Option, Result, Run, Some, Starts, TicketError}
+use Rattle.bucket_table.proofs.Words.{TicketStep, ℕ, [], arith, false, length_permutation, refl, suc, true, ◌∷◌, ◌≡◌}
 use Rattle.bucket_table.specs.Rehash.Covered.{RehashState}
 use Rattle.bucket_table.specs.Scripts.TicketCalls.{EndsTicket, IsTicketCall, no_rehash}
 use Rattle.bucket_table.specs.declared.script.call.Call.{Call}
@@ -15,14 +14,10 @@ none_started : (answer : Option ℕ) (after : RehashState) → Starts no_rehash.
 none_started None after starts killed = rw (starts.1, killed) refl
 none_started (Some ticket) after starts killed = let left = starts.is_left in absurd (omega (arith, left))
 
-none_closed : (unit : ℕ) (after : TicketState) → IsPermutation [] (unit ∷ after.open_units) → ⊥
-none_closed unit after moved = let len = length_permutation [] (unit ∷ after.open_units) moved in absurd (omega (arith, len))
-
 none_ended : (ticket : ℕ) (success : Bool) (answer : Result Bool TicketError) (after : RehashState)
-    → EndsTicket no_rehash ticket success answer after
-    → after ≡ no_rehash
+    → EndsTicket no_rehash ticket success answer after → after ≡ no_rehash
 none_ended ticket success (Ok true) after ends = ends.2
-none_ended ticket success (Ok false) after ends = absurd (none_closed ends.0.0 after.tickets ends.0.3.open_is)
+none_ended ticket success (Ok false) after ends = absurd (omega (arith, length_permutation _ _ ends.0.3.open_is))
 none_ended ticket success (Err NotOpen) after ends = rw (ends.0.1, ends.1) refl
 none_ended ticket success (Err NotDone) after ends = rw (ends.0.3, ends.1) refl
 

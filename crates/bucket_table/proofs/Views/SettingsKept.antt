@@ -1,9 +1,9 @@
 -- The hasher, the capacities and the bag stay, one call after another.
-use Rattle.bucket_table.proofs.Words.{ArraysView, Bool, KeepsOpenTickets, KeepsPairs, KeepsSettings, RetainsAt, TableView, ℕ, ap, refl, ◌∙◌}
-use Rattle.bucket_table.proofs.Words.{◌≡◌}
+use Rattle.bucket_table.proofs.Words.{ArraysView, Bool, KeepsOpenTickets, KeepsPairs, KeepsSettings, MapState, RetainsAt, TableView, ℕ, ap}
+use Rattle.bucket_table.proofs.Words.{refl, ◌∙◌, ◌≡◌}
 use Rattle.bucket_table.specs.Map.MapState.{state_of}
+use Rattle.bucket_table.proofs.Map.MapKept.{hasher_kept}
 use Rattle.bucket_table.proofs.Views.Keeping.{bag_both, bag_same}
-use Rattle.bucket_table.proofs.Map.MapKept.{hasher_kept, maximum_kept, minimum_kept}
 use Rattle.std.specs.Prelude.{count_by, ◌==◌}
 
 module _ {K V H : Type 0} where
@@ -24,8 +24,8 @@ module _ {K V H : Type 0} where
       → KeepsOpenTickets old.arrays.tickets new.arrays.tickets → KeepsSettings old new
   settings_kept kind old new kept bag = record {
     hasher = hasher_kept _ _ kept;
-    minimum = minimum_kept _ _ kept;
-    maximum = maximum_kept _ _ kept;
+    minimum = ap (λ (m : MapState K V H). m.minimum) kept.others;
+    maximum = ap (λ (m : MapState K V H). m.maximum) kept.others;
     bag = bag;
   }
 

@@ -1,8 +1,8 @@
 -- A bucket whose own slots were asked for at once: what is gone, and what is ahead.
-use Rattle.bucket_table.proofs.Words.{Bool, BucketView, CACHE, IsBucketOf, List, Place, Slot, [], ap}
-use Rattle.bucket_table.proofs.Words.{append_assoc, arith, bucket_with_value, false, free, if◌then◌else◌, inl, inr}
-use Rattle.bucket_table.proofs.Words.{is_live, length, live, live_pair, marked, pairs_ahead, pairs_in, refl, slot_in}
-use Rattle.bucket_table.proofs.Words.{slots_marked, slots_without, subst, sym, true, ℕ, ◌++◌, ◌==◌, ◌∙◌, ◌∷◌, ◌≡◌, ◌≢◌}
+use Rattle.bucket_table.proofs.Words.{Bool, BucketView, CACHE, IsBucketOf, List, Place, Slot, [], ap, append_assoc, arith}
+use Rattle.bucket_table.proofs.Words.{bucket_with_value, false, free, if◌then◌else◌, inl, inr, is_live, length, live, live_pair, marked}
+use Rattle.bucket_table.proofs.Words.{pairs_ahead, pairs_in, refl, slot_in, slots_marked, slots_without, subst, sym, true, ℕ, ◌++◌, ◌==◌}
+use Rattle.bucket_table.proofs.Words.{◌∙◌, ◌∷◌, ◌≡◌, ◌≢◌}
 use Rattle.std.proofs.Math.Seq.{get_or-append_seam, set-append_seam}
 use Rattle.std.proofs.lemmas.Bool.Decides.{nat_tests}
 use Rattle.std.proofs.lemmas.List.{drop_all}

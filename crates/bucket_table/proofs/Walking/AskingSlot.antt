@@ -1,9 +1,8 @@
 -- A function is asked for the pair in a live slot of a bucket, which stays with its value or goes.
-use Rattle.bucket_table.proofs.Words.{Bool, BucketView, IsBucketOf, None, Option, Place, Slot, Some, [], ap, bucket_with_value, false}
-use Rattle.bucket_table.proofs.Words.{free, inl, inr, is_live, live, live_pair, marked, not, pairs_ahead, pairs_in, refl, same_Some}
-use Rattle.bucket_table.proofs.Words.{slot_in, slots_marked, slots_without, sym, true, List, if◌then◌else◌, ℕ, ◌++◌, ◌==◌, ◌∙◌, ◌∷◌}
-use Rattle.bucket_table.proofs.Words.{◌≡◌, ◌≢◌}
-use Rattle.bucket_table.proofs.Words.{false≢true, true≢false}
+use Rattle.bucket_table.proofs.Words.{Bool, BucketView, IsBucketOf, List, None, Option, Place, Slot, Some, [], ap, bucket_with_value, false}
+use Rattle.bucket_table.proofs.Words.{false≢true, free, if◌then◌else◌, inl, inr, is_live, live, live_pair, not, pairs_ahead, pairs_in, refl}
+use Rattle.bucket_table.proofs.Words.{same_Some, slot_in, slots_marked, slots_without, sym, true, true≢false, ℕ, ◌++◌, ◌==◌, ◌∙◌, ◌∷◌, ◌≡◌}
+use Rattle.bucket_table.proofs.Words.{◌≢◌}
 use mathlib.Core.Bool.{beq}
 use Rattle.std.specs.Borrow.{Bor, MutBor}
 use Rattle.bucket_slots.proofs.ChangedSlots.{live_inside, slot_in-with_slot}
@@ -16,9 +15,8 @@ use Rattle.bucket_table.specs.Walking.Extracting.{AsksAt}
 use Rattle.bucket_table.specs.Walking.Retains.{slots_taken}
 
 live_with : {K V : Type 0} (slot : Slot K V) (value : V) → is_live (slot_with_value slot value) ≡ is_live slot
-live_with free value = refl
 live_with (live pair byte) value = refl
-live_with (marked pair byte) value = refl
+live_with slot value = refl
 
 -- a live slot with another value is live
 pub stays_live : {K V : Type 0} (s : BucketView K V) (at : Place) (value : V) → is_live (slot_in s at) ≡ true
@@ -29,15 +27,13 @@ stays_live s at value alive =
 
 same_answer : (answer keeps : Bool) → beq answer keeps ≡ true → answer ≡ keeps
 same_answer true true is = refl
-same_answer true false is = absurd (false≢true is)
-same_answer false true is = absurd (false≢true is)
 same_answer false false is = refl
+same_answer answer keeps is = absurd (false≢true is)
 
 other_answer : (answer keeps : Bool) → beq answer keeps ≡ false → answer ≡ not keeps
-other_answer true true is = absurd (true≢false is)
 other_answer true false is = refl
 other_answer false true is = refl
-other_answer false false is = absurd (true≢false is)
+other_answer answer keeps is = absurd (true≢false is)
 
 -- a pair that is taken leaves those before it and those ahead
 taken_order : {K V : Type 0} (index : Bool) (kind epoch : ℕ) (s : BucketView K V) (at : Place) (p : K × V) → IsBucketOf kind s

@@ -1,8 +1,8 @@
 -- Bounds on hashes, and where the buckets of an array begin.
-use Rattle.bucket_table.proofs.Words.{AllByRecursion, Bool, IsInInterval, IsInRange, IsLength, List, Meets, and_from, ap, arith, bound_of}
-use Rattle.bucket_table.proofs.Words.{cases_lt, false, false_from_ne_true}
-use Rattle.bucket_table.proofs.Words.{inl, inr, interval_width, le-leb, leb-true, lt-ltb, ltb-true, mul-le-mul_right}
-use Rattle.bucket_table.proofs.Words.{nat_le, nat_lt, subst, sym, true, ℕ, ◌&&◌, ◌*◌, ◌+◌, ◌-◌, ◌/◌, ◌<◌, ◌^◌, ◌↔◌, ◌∙◌, ◌≡◌, ◌≤◌}
+use Rattle.bucket_table.proofs.Words.{AllByRecursion, Bool, IsInRange, IsLength, List, Meets, and_from, ap, arith, bound_of, cases_lt}
+use Rattle.bucket_table.proofs.Words.{false, false_from_ne_true, inl, inr, interval_width, le-leb, leb-true, lt-ltb, ltb-true}
+use Rattle.bucket_table.proofs.Words.{mul-le-mul_right, nat_le, nat_lt, subst, sym, true, ℕ, ◌&&◌, ◌*◌, ◌+◌, ◌-◌, ◌/◌, ◌<◌, ◌^◌, ◌↔◌, ◌∙◌}
+use Rattle.bucket_table.proofs.Words.{◌≡◌, ◌≤◌}
 use Rattle.std.proofs.Math.Nat.{add-mul, div-mul-le_self, lt-div-mul-add, mul_comm, one-mul}
 use Rattle.std.proofs.lemmas.Bool.{and_parts}
 use Rattle.bucket_slots.proofs.PowersOfTwo.{exponent_le, power_parts, power_quotient}
@@ -15,18 +15,16 @@ HasNoneBetween hash low high pairs = AllByRecursion (λ pair. low ≤ hash pair.
 abbrev pub is_inside : ℕ → ℕ → ℕ → Bool
 is_inside len index hash = nat_le (bound_of len index) hash && nat_lt hash (bound_of len (index + 1))
 
-module _ (len index hash : ℕ) where
-  pub is_in : bound_of len index ≤ hash → hash < bound_of len (index + 1) → is_inside len index hash ≡ true
-  is_in a b = and_from (nat_le (bound_of len index) hash) (nat_lt hash (bound_of len (index + 1))) (le-leb (bound_of len index) hash a)
-      (lt-ltb hash (bound_of len (index + 1)) b)
+-- tests on hashes
+module _ (low high hash : ℕ) where
+  pub is_in : low ≤ hash → hash < high → (nat_le low hash && nat_lt hash high) ≡ true
+  is_in a b = and_from (nat_le low hash) (nat_lt hash high) (le-leb low hash a) (lt-ltb hash high b)
 
-  pub bounds : is_inside len index hash ≡ true → IsInInterval len index hash
-  bounds e =
-      let p = and_parts (nat_le (bound_of len index) hash) (nat_lt hash (bound_of len (index + 1))) e in
-      (leb-true (bound_of len index) hash p.0, ltb-true hash (bound_of len (index + 1)) p.1)
+  pub bounds : (nat_le low hash && nat_lt hash high) ≡ true → (low ≤ hash) × (hash < high)
+  bounds e = let p = and_parts (nat_le low hash) (nat_lt hash high) e in (leb-true low hash p.0, ltb-true hash high p.1)
 
-  pub is_out : (IsInInterval len index hash → ⊥) → is_inside len index hash ≡ false
-  is_out never = false_from_ne_true (is_inside len index hash) (λ e. never (bounds e))
+  pub is_out : (low ≤ hash → hash < high → ⊥) → (nat_le low hash && nat_lt hash high) ≡ false
+  is_out never = false_from_ne_true (nat_le low hash && nat_lt hash high) (λ e. let b = bounds e in never b.0 b.1)
 
 pub next_multiple : (i w : ℕ) → (i + 1) * w ≡ i * w + w
 next_multiple i w = add-mul i 1 w ∙ ap (λ (x : ℕ). i * w + x) (one-mul w)

@@ -1,6 +1,6 @@
 -- What a step of an iterator over pairs by use leaves.
-use Rattle.bucket_table.proofs.Words.{BucketView, List, Place, ap, arith, flattened, length, live_pair}
-use Rattle.bucket_table.proofs.Words.{live_pairs, map, pairs_ahead, slot_at, sym, ℕ, ◌++◌, ◌∙◌, ◌≡◌}
+use Rattle.bucket_table.proofs.Words.{BucketView, List, Place, ap, arith, flattened, length, live_pair, live_pairs, map, pairs_ahead}
+use Rattle.bucket_table.proofs.Words.{slot_at, sym, ℕ, ◌++◌, ◌∙◌, ◌≡◌}
 use Rattle.std.proofs.lemmas.List.{drop_all}
 use Rattle.std.proofs.lemmas.List.Elements.{filter_map-append}
 use Rattle.bucket_slots.specs.ByUse.{pairs_by_use, slots_by_use}

@@ -4,13 +4,13 @@ use Rattle.bucket_table.proofs.Words.{HasNoneFrom, IfOk, IsEntryHome, IsInInterv
 use Rattle.bucket_table.proofs.Words.{Place, Result, [], ap, arith, bound_of, bucket_at, bucket_on, cases_Bool, cases_lt, entries_in, false}
 use Rattle.bucket_table.proofs.Words.{inl, inr, interval_width, length, length_permutation, map-entries_in, mul-le-mul_right}
 use Rattle.bucket_table.proofs.Words.{nil_from_length, null_place, pairs_ahead, pairs_in, pairs_of, recursion_from_All, refl, subst, suc}
-use Rattle.bucket_table.proofs.Words.{sym, true≢false, zero, ℕ, ◌*◌, ◌++◌, ◌+◌, ◌<◌, ◌^◌, ◌∙◌, ◌∷◌, ◌≡◌, ◌≤◌, ◌⊎◌}
+use Rattle.bucket_table.proofs.Words.{sym, true≢false, zero, ℕ, ◌*◌, ◌++◌, ◌+◌, ◌<◌, ◌^◌, ◌∙◌, ◌∷◌, ◌≡◌, ◌≤◌}
 use Rattle.bucket_slots.specs.Walking.{IsEnd}
 use Rattle.bucket_table.specs.Walking.Cursors.{IsFirstFrom, IsFoundFrom, ReachesPast}
 use Rattle.bucket_table.specs.Map.LookingUp.{pairs_in_all}
 use Rattle.bucket_table.specs.declared.arrays.Missing.{Missing}
 use Rattle.bucket_table.proofs.Walking.Bounds.{HasNoneBetween, all_hashes, is_in, is_inside, next_multiple, still_past, wide}
-use Rattle.bucket_table.proofs.Walking.Each.{all_permuted, each_back, each_both, each_front, each_implies, each_map, none_pass, nothing}
+use Rattle.bucket_table.proofs.Walking.Each.{all_permuted, each, each_back, each_both, each_front, each_implies, each_map, none_pass}
 use Rattle.bucket_table.proofs.Walking.HomeSplit.{splits, taken_there}
 use Rattle.bucket_table.proofs.Views.Keeping.{kept_both, kept_none}
 use Rattle.bucket_table.proofs.Map.LookUps.{pairs_are}
@@ -21,8 +21,8 @@ module _ {K V : Type 0} where
   each_in : (P : K × V → Type 0) (bs : List (BucketView K V)) (k : ℕ) → k < length bs
       → AllByRecursion P (pairs_in_all bs) → AllByRecursion P (pairs_in (bucket_at bs k))
   each_in P [] k less h = absurd (omega (arith, less))
-  each_in P (b ∷ bs) zero less h = each_front P (pairs_in b) (pairs_in_all bs) h
-  each_in P (b ∷ bs) (suc k) less h = each_in P bs k (omega (arith, less)) (each_back P (pairs_in b) (pairs_in_all bs) h)
+  each_in P (b ∷ bs) zero less h = each_front _ (pairs_in b) (pairs_in_all bs) h
+  each_in P (b ∷ bs) (suc k) less h = each_in P bs k (omega (arith, less)) (each_back _ (pairs_in b) (pairs_in_all bs) h)
 
   -- without a current array there is no pair
   pub no_map : (arrays : ArraysView K V) → AreArrays arrays → length arrays.current ≡ 0 → pairs_of arrays ≡ []
@@ -38,8 +38,7 @@ module _ {K V : Type 0} (hash : K → ℕ) where
       let f : (K × V) × ℕ → K × V = λ e. e.0 in
       subst (AllByRecursion (λ (pair : K × V). IsInInterval len i (hash pair.0))) (map-entries_in b)
       (each_map (λ (pair : K × V). IsInInterval len i (hash pair.0)) f (entries_in b)
-      (each_implies _ (λ e. IsInInterval len i (hash e.0.0)) (λ e own. own.home.own)
-      (entries_in b) (recursion_from_All (IsEntryHome hash len i) (entries_in b) h)))
+      (each_implies _ (λ e own. own.home.own) (recursion_from_All (IsEntryHome hash len i) (entries_in b) h)))
 
   module _ (arrays : ArraysView K V) (bound index : ℕ) (law : ArePlaced hash arrays) (within : index < length arrays.current)
       (passed : HasNoneBetween hash bound (bound_of (length arrays.current) index) (pairs_of arrays)) where
@@ -56,10 +55,10 @@ module _ {K V : Type 0} (hash : K → ℕ) where
         let homes = homes_in n j (bucket_at c j) (law.homes.current_home j (omega (arith, below, within))) in
         let step : j + 1 ≤ index = omega (arith, below) in
         let up : bound_of n (j + 1) ≤ bound_of n index = mul-le-mul_right (interval_width n) step in
-        each_both _ _ (λ pair. hash pair.0 < bound) (λ pair none own. elim (cases_lt (hash pair.0) bound) [
+        each_both _ (λ pair none own. elim (cases_lt (hash pair.0) bound) [
           | inl less ↦ less
           | inr more ↦ absurd (none more (omega (arith, own.1, up)))
-        ]) (pairs_in (bucket_at c j)) never homes
+        ]) never homes
 
     -- and the old buckets with a target below
     pub none_behind : AreSourcesKilled arrays index → 0 < interval_width (length arrays.current) → (k target : ℕ)
@@ -75,7 +74,7 @@ module _ {K V : Type 0} (hash : K → ℕ) where
           | inr alive ↦
               let never = each_in _ l k inside (each_back _ (pairs_in_all arrays.current) (pairs_in_all l) parted) in
               let homes = homes_in (length l) k b (law.homes.linked_home k inside) in
-              each_both _ _ (λ pair. hash pair.0 < bound) (λ pair none own. elim (cases_lt (hash pair.0) bound) [
+              each_both _ (λ pair none own. elim (cases_lt (hash pair.0) bound) [
                 | inl less ↦ less
                 | inr more ↦ elim (cases_lt (hash pair.0) (bound_of n index)) [
                   | inl early ↦ absurd (none more early)
@@ -89,7 +88,7 @@ module _ {K V : Type 0} (hash : K → ℕ) where
                       ) in
                       absurd (true≢false (sym (ready k inside spans) ∙ alive))
                 ]
-              ]) (pairs_in b) never homes
+              ]) never homes
         ]
 
   -- what a cursor on its way has done
@@ -106,12 +105,8 @@ module _ {K V : Type 0} (hash : K → ℕ) where
     kept = kept_none old;
     order = omega arith;
     null = null;
-    none = each_none (pairs_of old);
+    none = each (λ pair low high. omega (arith, low, high)) (pairs_of old);
   }
-    where
-      each_none : (ps : List (K × V)) → HasNoneBetween hash (bound_of (length old.current) start) (bound_of (length old.current) start) ps
-      each_none [] = tt
-      each_none (p ∷ ps) = (λ low high. omega (arith, low, high), each_none ps)
 
   pub waits : (old now next : ArraysView K V) (start index : ℕ) (at : Place) → HasPassed old start index now at
       → ArePlaced hash next → KeepsArrays now next → HasPassed old start index next at
@@ -120,47 +115,59 @@ module _ {K V : Type 0} (hash : K → ℕ) where
     kept = kept_both old now next p.kept kept;
     order = p.order;
     null = p.null;
-    none = all_permuted _ (pairs_of now) (pairs_of next) (keeps_pairs now next kept.keeps) p.none;
+    none = all_permuted _ (keeps_pairs now next kept.keeps) p.none;
   }
 
+  -- a bucket that is there stays there
+  still_within : (before now : ArraysView K V) (len index : ℕ) → KeepsArrays before now → len ≡ length before.current → index < len
+      → index < length now.current
+  still_within before now len index kept is within =
+      let same = kept.current_len in
+      omega (arith, within, is, same)
+
   -- the bucket at the index is empty, and nothing of it is in the old buckets
-  pub passes : (old now : ArraysView K V) (start index : ℕ) (at next : Place) → HasPassed old start index now at
-      → index < length now.current → AreSourcesKilled now index → IsEnd (bucket_on now Current index) at next
+  pub passes_at : (old before now : ArraysView K V) (start index len : ℕ) (at next : Place) (b : BucketView K V)
+      → HasPassed old start index before at → ArePlaced hash now → KeepsArrays before now
+      → len ≡ length before.current → index < len → AreSourcesKilled now index → b ≡ bucket_on now Current index → IsEnd b at next
       → HasPassed old start (index + 1) now next
-  passes old now start index at next p within ready end =
+  passes_at old before now start index len at next b done law kept is below ready here end =
+      let p = waits old before now start index at done law kept in
+      let within = still_within before now len index kept is below in
       let n : ℕ = length now.current in
       let m : ℕ = length old.current in
-      let same : n ≡ m = p.kept.current_len in
-      let empty : pairs_in (bucket_on now Current index) ≡ [] = subst
-      (λ (q : Place). pairs_ahead (bucket_on now Current index) q ≡ []) p.null end.ahead in
+      let empty : pairs_in (bucket_on now Current index) ≡ [] =
+      subst (λ (q : Place). pairs_ahead (bucket_on now Current index) q ≡ []) p.null
+      (ap (λ (x : BucketView K V). pairs_ahead x at) (sym here) ∙ end.ahead) in
       let home = taken_there hash now index (splits hash now index p.placed within ready) in
       let none = none_pass (λ (pair : K × V). is_inside n index (hash pair.0)) (pairs_of now)
-      (nothing _ (omega (arith, length_permutation _ _ home, ap length empty))) in
-      let none' : AllByRecursion (λ (pair : K × V). is_inside m index (hash pair.0) ≡ false)
-      (pairs_of now) = subst (λ (k : ℕ). AllByRecursion
-      (λ (pair : K × V). is_inside k index (hash pair.0) ≡ false) (pairs_of now)) same none in
+      (nil_from_length _ (omega (arith, length_permutation _ _ home, ap length empty))) in
+      let none' = subst (λ (k : ℕ). AllByRecursion (λ (pair : K × V). is_inside k index (hash pair.0) ≡ false) (pairs_of now))
+      p.kept.current_len none in
       record {
         placed = p.placed;
         kept = p.kept;
         order = omega (arith, p.order);
         null = end.null;
-        none = each_both _ _ (λ pair. bound_of m start ≤ hash pair.0 → hash pair.0 < bound_of m (index + 1) → ⊥)
-            (λ pair before out low high. elim (cases_lt (hash pair.0) (bound_of m index)) [
-              | inl less ↦ before low less
-              | inr more ↦ true≢false (sym (is_in m index (hash pair.0) more high) ∙ out)
-            ]) (pairs_of now) p.none none';
+        none = each_both _ (λ pair before out low high. elim (cases_lt (hash pair.0) (bound_of m index)) [
+          | inl less ↦ before low less
+          | inr more ↦ true≢false (sym (is_in _ _ (hash pair.0) more high) ∙ out)
+        ]) p.none none';
       }
 
   -- the cursor stops at the first live pair
-  pub stops : (old now : ArraysView K V) (start index : ℕ) (at next : Place) → HasPassed old start index now at
-      → index < length now.current → IsLength (length now.current)
-      → AreSourcesKilled now index → MovesToNext (bucket_on now Current index) at next
+  pub stops_at : (old before now : ArraysView K V) (start index len : ℕ) (at next : Place) (b : BucketView K V)
+      → HasPassed old start index before at → ArePlaced hash now → KeepsArrays before now
+      → len ≡ length before.current → index < len → (0 < len → IsLength len)
+      → AreSourcesKilled now index → b ≡ bucket_on now Current index → MovesToNext b at next
       → IsFirstFrom hash now (bound_of (length old.current) start) index next
-  stops old now start index at next p within long ready moves =
-      let same : length now.current ≡ length old.current = p.kept.current_len in
+  stops_at old before now start index len at next b done law kept is below long ready here moved =
+      let p = waits old before now start index at done law kept in
+      let within = still_within before now len index kept is below in
+      let moves = subst (λ (x : BucketView K V). MovesToNext x at next) here moved in
+      let now_long = subst IsLength (is ∙ sym kept.current_len) (long (omega (arith, below))) in
       let bound : ℕ = bound_of (length old.current) start in
       let passed : HasNoneBetween hash bound (bound_of (length now.current) index)
-      (pairs_of now) = subst (λ (m : ℕ). HasNoneBetween hash bound (bound_of m index) (pairs_of now)) (sym same) p.none in
+      (pairs_of now) = subst (λ (m : ℕ). HasNoneBetween hash bound (bound_of m index) (pairs_of now)) (sym p.kept.current_len) p.none in
       record {
         locked = locked_current now index within ready;
         pair = moves.pair;
@@ -168,7 +175,7 @@ module _ {K V : Type 0} (hash : K → ℕ) where
         first = subst (λ (q : Place). pairs_ahead (bucket_on now Current index) q ≡ moves.pair ∷
             pairs_ahead (bucket_on now Current index) next) p.null moves.ahead;
         current = none_below now bound index p.placed within passed;
-        old = none_behind now bound index p.placed within passed ready (wide _ long);
+        old = none_behind now bound index p.placed within passed ready (wide _ now_long);
         passed = passed;
       }
 
@@ -176,58 +183,23 @@ module _ {K V : Type 0} (hash : K → ℕ) where
   pub ends : (old now : ArraysView K V) (start index : ℕ) (at : Place) → HasPassed old start index now at → ((k : K) → hash k < 2 ^ 64)
       → AreArrays now → (0 < length now.current → IsLength (length now.current)) → length now.current ≤ index → HasNoneFrom hash
       (bound_of (length old.current) start) (pairs_of now)
-  ends old now start index at p fits law long past = go (cases_lt 0 (length now.current))
-    where
-      go : (0 < length now.current) ⊎ (length now.current ≤ 0) → HasNoneFrom hash (bound_of (length old.current) start) (pairs_of now)
-      go (inl some) =
-          let n : ℕ = length now.current in
-          let m : ℕ = length old.current in
-          let same : n ≡ m = p.kept.current_len in
-          let top : 2 ^ 64 ≤ bound_of n index = subst (λ (k : ℕ). k ≤ bound_of n index)
-          (all_hashes n (long some)) (mul-le-mul_right (interval_width n) past) in
-          let top' : 2 ^ 64 ≤ bound_of m index = subst (λ (k : ℕ). 2 ^ 64 ≤ bound_of k index) same
-          top in
-          each_implies _ (λ pair. hash pair.0 < bound_of m start) (λ pair none. elim (cases_lt (hash pair.0) (bound_of m start)) [
-            | inl less ↦ less
-            | inr more ↦ absurd (none more (omega (arith, top', fits pair.0)))
-          ]) (pairs_of now) p.none
-      go (inr none) = subst (HasNoneFrom hash (bound_of (length old.current) start)) (sym (no_map now law (omega (arith, none)))) tt
+  ends old now start index at p fits law long past = elim (cases_lt 0 (length now.current)) [
+    | inl some ↦
+        let n : ℕ = length now.current in
+        let top : 2 ^ 64 ≤ bound_of n index = subst (λ (k : ℕ). k ≤ bound_of n index)
+        (all_hashes n (long some)) (mul-le-mul_right (interval_width n) past) in
+        let top' = subst (λ (k : ℕ). 2 ^ 64 ≤ bound_of k index) p.kept.current_len top in
+        each_implies _ (λ pair none. elim (cases_lt (hash pair.0) (bound_of (length old.current) start)) [
+          | inl less ↦ less
+          | inr more ↦ absurd (none more (omega (arith, top', fits pair.0)))
+        ]) p.none
+    | inr none ↦
+        subst (HasNoneFrom hash (bound_of (length old.current) start)) (sym (no_map now law (omega (arith, none)))) tt
+  ]
 
-module _ {K V : Type 0} (hash : K → ℕ) where
-  -- a bucket that is there stays there
-  pub still_within : (before now : ArraysView K V) (len index : ℕ) → KeepsArrays before now → len ≡ length before.current → index < len
-      → index < length now.current
-  still_within before now len index kept is within =
-      let same = kept.current_len in
-      omega (arith, within, is, same)
-
-  -- a bucket was prepared, and its first pair is found
-  pub stops_at : (old before now : ArraysView K V) (start index len : ℕ) (at next : Place)
-      (b : BucketView K V) → HasPassed hash old start index before at → ArePlaced hash now → KeepsArrays before now
-      → len ≡ length before.current → index < len → (0 < len → IsLength len)
-      → AreSourcesKilled now index → b ≡ bucket_on now Current index → MovesToNext b at next
-      → IsFirstFrom hash now (bound_of (length old.current) start) index next
-  stops_at old before now start index len at next b p law kept is within long ready here moves =
-      let same : length now.current ≡ length before.current = kept.current_len in
-      stops hash old now start index at next (waits hash old before now start index at p law kept)
-      (still_within before now len index kept is within)
-      (subst IsLength (is ∙ sym same) (long (omega (arith, within)))) ready
-      (subst (λ (x : BucketView K V). MovesToNext x at next) here moves)
-
-  -- or it has none
-  pub passes_at : (old before now : ArraysView K V) (start index len : ℕ) (at next : Place)
-      (b : BucketView K V) → HasPassed hash old start index before at → ArePlaced hash now → KeepsArrays before now
-      → len ≡ length before.current → index < len → AreSourcesKilled now index → b ≡ bucket_on now Current index → IsEnd b at next
-      → HasPassed hash old start (index + 1) now next
-  passes_at old before now start index len at next b p law kept is within ready here end =
-      passes hash old now start index at next (waits hash old before now start index at p law kept)
-      (still_within before now len index kept is within) ready
-      (subst (λ (x : BucketView K V). IsEnd x at next) here end)
-
--- what is told from an earlier hash on is told from a later one on
-module _ {K V : Type 0} (hash : K → ℕ) where
+  -- what is told from an earlier hash on is told from a later one on
   pub from_later : (low lower : ℕ) → lower ≤ low → (ps : List (K × V)) → HasNoneFrom hash lower ps → HasNoneFrom hash low ps
-  from_later low lower less ps h = each_implies _ (λ pair. hash pair.0 < low) (λ pair below. omega (arith, less, below)) ps h
+  from_later low lower less ps h = each_implies _ (λ pair below. omega (arith, less, below)) h
 
   pub none_past : (low : ℕ) → 2 ^ 64 ≤ low → ((k : K) → hash k < 2 ^ 64) → (ps : List (K × V)) → HasNoneFrom hash low ps
   none_past low top fits [] = tt
@@ -242,18 +214,14 @@ module _ {K V : Type 0} (hash : K → ℕ) where
     first = f.first;
     current = λ j below. from_later low lower less _ (f.current j below);
     old = λ k target inside below meets. from_later low lower less _ (f.old k target inside below meets);
-    passed = each_implies _ (λ pair. low ≤ hash pair.0 → hash pair.0 < bound_of (length arrays.current) index → ⊥) (λ pair none a b. none
-        (omega (arith, less, a)) b) (pairs_of arrays) f.passed;
+    passed = each_implies _ (λ pair none a b. none (omega (arith, less, a)) b) f.passed;
   }
 
   pub goes_later : (r : Result ℕ Missing) (arrays : ArraysView K V) (low lower : ℕ)
       (at : Place) → lower ≤ low → IsFoundFrom hash lower r arrays at → IsFoundFrom hash low r arrays at
   goes_later (Ok index) arrays low lower at less h = first_later arrays low lower index at less h
-  goes_later (Err e) arrays low lower at less h = record {
-    null = h.null;
-    none = λ nothing. from_later low lower less (pairs_of arrays)
-        (h.none nothing);
-  }
+  goes_later (Err e) arrays low lower at less h =
+      record { null = h.null; none = λ nothing. from_later low lower less (pairs_of arrays) (h.none nothing) }
 
 module _ {K V : Type 0} where
   pub reaches_on : (r : Result ℕ Missing) (from index low : ℕ) (old new : ArraysView K V) → bound_of from index < bound_of
@@ -262,12 +230,10 @@ module _ {K V : Type 0} where
       (sym kept.current_len) order
   reaches_on (Err e) from index low old new past kept order = tt
 
-module _ {K V : Type 0} where
   -- a pointer that moves had something ahead
   pub some_ahead : (b other : BucketView K V) (at next : Place) → b ≡ other → MovesToNext b at next → pairs_ahead other at ≡ [] → ⊥
-  some_ahead b other at next is m none = let no : pairs_ahead other at ≡ m.pair ∷ pairs_ahead b next
-      = ap (λ (x : BucketView K V). pairs_ahead x at) (sym is) ∙ m.ahead in let e : [] ≡ m.pair ∷
-      pairs_ahead b next = sym none ∙ no in absurd cc
+  some_ahead b other at next is m none =
+      let no : [] ≡ m.pair ∷ pairs_ahead b next = sym none ∙ ap (λ (x : BucketView K V). pairs_ahead x at) (sym is) ∙ m.ahead in absurd cc
 
   pub none_ahead : (b other : BucketView K V) (at next : Place) → b ≡ other → IsEnd b at next → pairs_ahead other at ≡ []
   none_ahead b other at next is e = ap (λ (x : BucketView K V). pairs_ahead x at) (sym is) ∙ e.ahead

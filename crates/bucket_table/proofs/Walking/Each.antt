@@ -1,6 +1,6 @@
 -- What holds of each element of a list.
 use Rattle.bucket_table.proofs.Words.{All-from_recursion, All-permutation, AllByRecursion, Bool, IsPermutation, IsPermutation-append_left}
-use Rattle.bucket_table.proofs.Words.{List, [], ap, append_assoc, arith, cases_Bool, cond, false, filter, inl, inr, length, map}
+use Rattle.bucket_table.proofs.Words.{List, [], append_assoc, arith, cases_Bool, cond, false, filter, inl, inr, length, map}
 use Rattle.bucket_table.proofs.Words.{recursion_from_All, refl, true, ◌++◌, ◌∷◌, ◌≡◌}
 use Rattle.std.proofs.lemmas.List.Sorted.{IsPermutation-append_comm}
 
@@ -9,14 +9,14 @@ module _ {A : Type 0} where
   each f [] = tt
   each f (x ∷ xs) = (f x, each f xs)
 
-  pub each_implies : (P Q : A → Type 0) → ((x : A) → P x → Q x) → (xs : List A) → AllByRecursion P xs → AllByRecursion Q xs
-  each_implies P Q f [] h = tt
-  each_implies P Q f (x ∷ xs) h = (f x h.0, each_implies P Q f xs h.1)
+  pub each_implies : {P Q : A → Type 0} (xs : List A) → ((x : A) → P x → Q x) → AllByRecursion P xs → AllByRecursion Q xs
+  each_implies [] f h = tt
+  each_implies (x ∷ xs) f h = (f x h.0, each_implies xs f h.1)
 
-  pub each_both : (P Q R : A → Type 0) → ((x : A) → P x → Q x → R x) → (xs : List A)
-      → AllByRecursion P xs → AllByRecursion Q xs → AllByRecursion R xs
-  each_both P Q R f [] h k = tt
-  each_both P Q R f (x ∷ xs) h k = (f x h.0 k.0, each_both P Q R f xs h.1 k.1)
+  pub each_both : {P Q R : A → Type 0} (xs : List A) → ((x : A) → P x → Q x → R x) → AllByRecursion P xs → AllByRecursion Q xs
+      → AllByRecursion R xs
+  each_both [] f h k = tt
+  each_both (x ∷ xs) f h k = (f x h.0 k.0, each_both xs f h.1 k.1)
 
   pub each_append : (P : A → Type 0) (xs ys : List A) → AllByRecursion P xs → AllByRecursion P ys → AllByRecursion P (xs ++ ys)
   each_append P [] ys h k = k
@@ -41,8 +41,12 @@ module _ {A : Type 0} where
     | inr fails ↦ rw fails (each_filter P p xs h.1)
   ]
 
-  pub all_permuted : (P : A → Type 0) (xs ys : List A) → IsPermutation xs ys → AllByRecursion P xs → AllByRecursion P ys
-  all_permuted P xs ys moved h = recursion_from_All P ys (All-permutation P xs ys moved (All-from_recursion P xs h))
+  pub all_permuted : (P : A → Type 0) {xs ys : List A} → IsPermutation xs ys → AllByRecursion P xs → AllByRecursion P ys
+  all_permuted P {xs} {ys} moved h = recursion_from_All P ys (All-permutation P xs ys moved (All-from_recursion P xs h))
+
+  pub none_in : {P : A → Type 0} {xs : List A} → ((x : A) → P x → ⊥) → AllByRecursion P xs → xs ≡ []
+  none_in {xs = []} never h = refl
+  none_in {xs = x ∷ xs} never h = absurd (never x h.0)
 
   first_fails : (b : Bool) (x : A) (us : List A) → cond b (x ∷ us) us ≡ [] → (b ≡ false) × (us ≡ [])
   first_fails true x us e = absurd cc
@@ -56,14 +60,10 @@ module _ {A : Type 0} where
   nothing [] e = refl
   nothing (x ∷ xs) e = let no : ⊥ = omega (arith, e) in absurd no
 
-  pub map_append : {B : Type 0} (f : A → B) (xs ys : List A) → map f (xs ++ ys) ≡ map f xs ++ map f ys
-  map_append f [] ys = refl
-  map_append f (x ∷ xs) ys = ap (λ zs. f x ∷ zs) (map_append f xs ys)
-
   pub to_front : (xs ys zs : List A) → IsPermutation (xs ++ (ys ++ zs)) (ys ++ (xs ++ zs))
   to_front xs ys zs =
-      rw (← append_assoc xs ys zs, ← append_assoc ys xs zs) (IsPermutation-append_left zs (xs ++ ys) (ys ++ xs)
-      (IsPermutation-append_comm xs ys))
+      rw (← append_assoc xs ys zs, ← append_assoc ys xs zs)
+      (IsPermutation-append_left zs (xs ++ ys) (ys ++ xs) (IsPermutation-append_comm xs ys))
 
   pub each_unmap : {B : Type 0} (P : B → Type 0) (f : A → B) (xs : List A) → AllByRecursion P (map f xs) → AllByRecursion (λ x. P (f x)) xs
   each_unmap P f [] h = tt

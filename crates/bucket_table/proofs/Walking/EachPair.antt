@@ -1,20 +1,19 @@
 -- A function called with each pair of an array, bucket by bucket.
-use Rattle.bucket_table.proofs.Words.{BucketView, List, append-nil, append_assoc, ap, arith, bucket_at, length, pairs_in, subst, suc, sym}
-use Rattle.bucket_table.proofs.Words.{take, zero, [], ℕ, ◌++◌, ◌+◌, ◌<◌, ◌∙◌, ◌∷◌, ◌≡◌}
+use Rattle.bucket_table.proofs.Words.{BucketView, List, [], ap, append-nil, bucket_at, empty_bucket, length, pairs_in, subst, sym, take, ℕ}
+use Rattle.bucket_table.proofs.Words.{◌++◌, ◌+◌, ◌<◌, ◌∙◌, ◌∷◌, ◌≡◌}
 use Rattle.std.specs.Borrow.{Bor}
 use Rattle.bucket_slots.proofs.CallingEach.{calls_joined}
 use Rattle.bucket_slots.specs.Walking.{CallsEach}
 use Rattle.bucket_table.specs.Map.LookingUp.{pairs_in_all}
+use Rattle.std.proofs.lemmas.List.{take_more}
+use Rattle.bucket_table.proofs.Walking.Row.{all_joined}
 
 module _ {K V : Type 0} where
   pairs_in_all-more : (bs : List (BucketView K V)) (i : ℕ) → i < length bs
       → pairs_in_all (take i bs) ++ pairs_in (bucket_at bs i) ≡ pairs_in_all (take (i + 1) bs)
-  pairs_in_all-more [] i within = absurd (omega arith)
-  pairs_in_all-more (b ∷ bs) zero within = sym (append-nil (pairs_in b))
-  pairs_in_all-more (b ∷ bs) (suc i) within =
-      let e : suc i + 1 ≡ suc (i + 1) = omega arith in
-      rw e (append_assoc (pairs_in b) (pairs_in_all (take i bs)) (pairs_in (bucket_at bs i))
-      ∙ ap (λ ps. pairs_in b ++ ps) (pairs_in_all-more bs i (omega arith)))
+  pairs_in_all-more bs i within =
+      ap (λ ps. pairs_in_all (take i bs) ++ ps) (sym (append-nil (pairs_in (bucket_at bs i))))
+      ∙ sym (ap pairs_in_all (take_more bs i empty_bucket within) ∙ all_joined (take i bs) (bucket_at bs i ∷ []))
 
   module _ {S : Type 0} (step : S → Bor K → Bor V → S → Type 0) where
     -- the same pairs

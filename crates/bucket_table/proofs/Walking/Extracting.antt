@@ -1,8 +1,7 @@
 -- What a step of an extraction asks for, and what it leaves.
-use Rattle.bucket_table.proofs.Words.{ArraysView, Bool, BucketView, IsEquivalence, IsOneMap, List, None, Option, Place}
-use Rattle.bucket_table.proofs.Words.{Some, [], ap, append-nil, append_assoc, arith, bucket_at, false}
-use Rattle.bucket_table.proofs.Words.{length, pairs_of, refl, same_Some, subst, sym, true, ℕ, ◌++◌, ◌<◌, ◌∙◌}
-use Rattle.bucket_table.proofs.Words.{◌∷◌, ◌≡◌, ◌≢◌, ◌⊎◌, inl, inr}
+use Rattle.bucket_table.proofs.Words.{ArraysView, Bool, BucketView, IsEquivalence, IsOneMap, List, None, Option, Place, Some, [], ap}
+use Rattle.bucket_table.proofs.Words.{append-nil, append_assoc, arith, bucket_at, false, inl, inr, length, pairs_of, refl, same_Some, subst}
+use Rattle.bucket_table.proofs.Words.{sym, true, ℕ, ◌++◌, ◌<◌, ◌∙◌, ◌∷◌, ◌≡◌, ◌≢◌, ◌⊎◌}
 use Rattle.std.specs.Borrow.{Bor, MutBor}
 use Rattle.std.specs.List.Retain.{ExtractsNext}
 use Rattle.std.proofs.lemmas.Option.{none-some}

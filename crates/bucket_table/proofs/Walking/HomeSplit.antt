@@ -1,14 +1,13 @@
 -- All pairs of two arrays, split into those of one current bucket and those elsewhere.
 use Rattle.bucket_table.proofs.Words.{AllByRecursion, ArePlaced, AreSourcesKilled, ArraysView, Bool, BucketView, Current, IsEntryHome}
 use Rattle.bucket_table.proofs.Words.{IsInInterval, IsPermutation, IsPermutation-append_left, IsPermutation-append_right, IsPermutation-map}
-use Rattle.bucket_table.proofs.Words.{IsPermutation-refl, IsPermutation-sym, IsPermutation-trans, List, [], ap, append_assoc, arith}
-use Rattle.bucket_table.proofs.Words.{arrays_with, bucket_at, bucket_on, cases_Bool, empty_bucket, entries_among, entries_in, entries_of}
-use Rattle.bucket_table.proofs.Words.{false, filter, filter-append, get_or-set_same, inl, inr, length, map, map-entries_in, not}
-use Rattle.bucket_table.proofs.Words.{not_from_false, not_from_true, pairs_in, pairs_of, recursion_from_All, refl, set, subst, suc, sym}
-use Rattle.bucket_table.proofs.Words.{true, zero, ℕ, ◌++◌, ◌<◌, ◌∙◌, ◌∷◌, ◌≡◌}
-use Rattle.std.proofs.lemmas.List.{append-nil, length-set}
+use Rattle.bucket_table.proofs.Words.{IsPermutation-refl, IsPermutation-sym, IsPermutation-trans, List, [], ap, append-nil, append_assoc}
+use Rattle.bucket_table.proofs.Words.{arith, arrays_with, bucket_at, bucket_on, cases_Bool, empty_bucket, entries_among, entries_in}
+use Rattle.bucket_table.proofs.Words.{entries_of, false, filter, filter-append, get_or-set_same, inl, inr, length, length-set, map}
+use Rattle.bucket_table.proofs.Words.{map-append, map-entries_in, not, not_from_false, not_from_true, pairs_in, pairs_of}
+use Rattle.bucket_table.proofs.Words.{recursion_from_All, refl, set, subst, suc, sym, true, zero, ℕ, ◌++◌, ◌<◌, ◌∙◌, ◌∷◌, ◌≡◌}
 use Rattle.bucket_table.proofs.Walking.Bounds.{is_in, is_inside, is_out}
-use Rattle.bucket_table.proofs.Walking.Each.{each_append, each_implies, each_map, map_append, to_front}
+use Rattle.bucket_table.proofs.Walking.Each.{each_append, each_implies, each_map, to_front}
 use Rattle.bucket_table.proofs.Walking.Filters.{IsPermutation-filter, filter_all, filter_none}
 use Rattle.bucket_table.proofs.Views.Killed.{no_entries}
 
@@ -75,22 +74,19 @@ module _ {K V : Type 0} (hash : K → ℕ) where
         rest = others c i ++ entries_among l;
         before = subst (IsPermutation (entries_among c ++ entries_among l)) (append_assoc (entries_in (bucket_at c i)) (others c i)
             (entries_among l)) (IsPermutation-append_left (entries_among l) _ _ (split_at c i within));
-        at_home = each_implies (IsEntryHome hash n i) (λ e. IsInInterval n i (hash e.0.0))
-            (λ e h. h.home.own) _ (recursion_from_All (IsEntryHome hash n i) _ (law.homes.current_home i within));
+        at_home = each_implies _ (λ e h. h.home.own) (recursion_from_All (IsEntryHome hash n i) _ (law.homes.current_home i within));
         elsewhere = each_append Away (others c i) (entries_among l)
-            (all_others Away c i (λ j below other. each_implies (IsEntryHome hash n j) Away
-            (λ e h own. other (sym (h.home.the_one i own))) _
+            (all_others Away c i (λ j below other. each_implies _ (λ e h own. other (sym (h.home.the_one i own)))
             (recursion_from_All (IsEntryHome hash n j) _ (law.homes.current_home j below))))
             (all_entries Away l (λ k below. elim (cases_Bool (bucket_at l k).killed) [
               | inl killed ↦ subst (AllByRecursion Away) (sym (no_entries (bucket_at l k) (law.homes.killed_empty k below killed))) tt
-              | inr alive ↦ each_implies (IsEntryHome hash (length l) k) Away
+              | inr alive ↦ each_implies _
                   (λ e h own. let dead : (bucket_at l k).killed ≡ true = ready k below (hash e.0.0, h.home.own, own) in absurd cc)
-                  _ (recursion_from_All (IsEntryHome hash (length l) k) _ (law.homes.linked_home k below))
+                  (recursion_from_All (IsEntryHome hash (length l) k) _ (law.homes.linked_home k below))
             ]));
-        after = λ b.
-            let moved = subst (IsPermutation (entries_among (set c i b) ++ entries_among l)) (append_assoc (entries_in b) (others c i)
-            (entries_among l)) (IsPermutation-append_left (entries_among l) _ _ (split_set c i b within)) in
-            moved;
+        after = λ b. subst (IsPermutation (entries_among (set c i b) ++ entries_among l))
+            (append_assoc (entries_in b) (others c i) (entries_among l))
+            (IsPermutation-append_left (entries_among l) _ _ (split_set c i b within));
       }
 
   module _ (arrays : ArraysView K V) (i : ℕ) (s : SplitsAt arrays i) where
@@ -106,40 +102,36 @@ module _ {K V : Type 0} (hash : K → ℕ) where
     pairs_split : (b : BucketView K V) (new : List ((K × V) × ℕ))
         → IsPermutation new (entries_in b ++ s.rest) → IsPermutation (map first_of_entry new) (pairs_in b ++ rest_pairs)
     pairs_split b new moved = subst (λ ps. IsPermutation (map first_of_entry new) (ps ++ rest_pairs)) (map-entries_in b)
-        (subst (IsPermutation (map first_of_entry new)) (map_append first_of_entry (entries_in b) s.rest)
+        (subst (IsPermutation (map first_of_entry new)) (map-append first_of_entry (entries_in b) s.rest)
         (IsPermutation-map first_of_entry _ _ moved))
 
     pairs_at_home : AllByRecursion (λ pair. inside pair ≡ true) (pairs_in (bucket_on arrays Current i))
     pairs_at_home = subst (AllByRecursion (λ pair. inside pair ≡ true)) (map-entries_in (bucket_on arrays Current i))
-        (each_map (λ pair. inside pair ≡ true) first_of_entry _
-        (each_implies _ (λ e. inside e.0 ≡ true) (λ e h. is_in _ i (hash e.0.0) h.0 h.1) _
-        s.at_home))
+        (each_map (λ pair. inside pair ≡ true) first_of_entry _ (each_implies _ (λ e h. is_in _ _ (hash e.0.0) h.0 h.1) s.at_home))
 
     rest_elsewhere : AllByRecursion (λ pair. inside pair ≡ false) rest_pairs
     rest_elsewhere = each_map (λ pair. inside pair ≡ false) first_of_entry _
-        (each_implies _ (λ e. inside e.0 ≡ false) (λ e h. is_out _ i (hash e.0.0) h) _ s.elsewhere)
+        (each_implies _ (λ e h. is_out _ _ (hash e.0.0) (λ low high. h (low, high))) s.elsewhere)
+
+    -- a filter sees the bucket's pairs and the others
+    filtered : (p : K × V → Bool) → IsPermutation (filter p (pairs_of arrays))
+        (filter p (pairs_in (bucket_on arrays Current i)) ++ filter p rest_pairs)
+    filtered p = subst (IsPermutation (filter p (pairs_of arrays))) (filter-append p (pairs_in (bucket_on arrays Current i)) rest_pairs)
+        (IsPermutation-filter p _ _ (pairs_split (bucket_on arrays Current i) (entries_of arrays) s.before))
 
     -- the bucket has the pairs whose home it is
     pub taken_there : IsPermutation (filter inside (pairs_of arrays)) (pairs_in (bucket_on arrays Current i))
     taken_there =
         let lent = pairs_in (bucket_on arrays Current i) in
-        let e : filter inside (lent ++ rest_pairs) ≡ lent = filter-append inside lent rest_pairs ∙
-        ap (λ us. us ++ filter inside rest_pairs) (filter_all inside lent pairs_at_home) ∙ ap
-        (λ us. lent ++ us) (filter_none inside rest_pairs rest_elsewhere) ∙ append-nil lent in
-        subst (IsPermutation (filter inside (pairs_of arrays))) e
-        (IsPermutation-filter inside _ _ (pairs_split (bucket_on arrays Current i) (entries_of arrays) s.before))
+        let all = filter_all inside lent pairs_at_home in
+        let none = filter_none inside rest_pairs rest_elsewhere in
+        subst (IsPermutation (filter inside (pairs_of arrays))) ((λ j. all j ++ none j) ∙ append-nil lent) (filtered inside)
 
     stayed : IsPermutation (filter outside (pairs_of arrays)) rest_pairs
     stayed =
-        let lent = pairs_in (bucket_on arrays Current i) in
-        let none = filter_none outside lent (each_implies _ (λ p. outside p ≡ false)
-        (λ p e. not_from_true (inside p) e) lent pairs_at_home) in
-        let all = filter_all outside rest_pairs (each_implies _ (λ p. outside p ≡ true)
-        (λ p e. not_from_false (inside p) e) rest_pairs rest_elsewhere) in
-        let e : filter outside (lent ++ rest_pairs) ≡ rest_pairs = filter-append outside lent
-        rest_pairs ∙ ap (λ us. us ++ filter outside rest_pairs) none ∙ all in
-        subst (IsPermutation (filter outside (pairs_of arrays))) e
-        (IsPermutation-filter outside _ _ (pairs_split (bucket_on arrays Current i) (entries_of arrays) s.before))
+        let none = filter_none outside _ (each_implies _ (λ p e. not_from_true (inside p) e) pairs_at_home) in
+        let all = filter_all outside rest_pairs (each_implies _ (λ p e. not_from_false (inside p) e) rest_elsewhere) in
+        subst (IsPermutation (filter outside (pairs_of arrays))) (λ j. none j ++ all j) (filtered outside)
 
     -- another bucket there has its pairs in their place
     pub changed_there : (b : BucketView K V) → IsPermutation

@@ -1,22 +1,39 @@
 -- What is left of buckets where live pairs are changed or taken one after another.
-use Rattle.bucket_table.proofs.Words.{Bool, BucketView, IsPermutation, IsPermutation-append_right, IsPermutation-map}
-use Rattle.bucket_table.proofs.Words.{IsPermutation-refl, IsPermutation-trans, List, MarksBy, None, Option, Place, Some, []}
-use Rattle.bucket_table.proofs.Words.{append_assoc, bucket_at, bucket_with_value, by-no_new, by-trans, cases_eq, empty_bucket, entries_in}
-use Rattle.bucket_table.proofs.Words.{false, get_or-set_other, get_or-set_same, if◌then◌else◌, inl, inr, is_live, length, length-set}
-use Rattle.bucket_table.proofs.Words.{live_from_pair, live_pair, marks_in, no_new-refl, refl, set, slot_in, slots_marked, slots_without}
-use Rattle.bucket_table.proofs.Words.{subst, sym, true, ℕ, ◌++◌, ◌<◌, ◌==◌, ◌∙◌, ◌∷◌, ◌≡◌}
+use Rattle.bucket_table.proofs.Words.{All, All-from_recursion, ArraysView, Bool, BucketView, IsDistinct, IsDistinct-IsPermutation}
+use Rattle.bucket_table.proofs.Words.{IsEntryHome, IsEquivalence, IsHome, IsOneMap, IsPermutation, IsPermutation-append_left}
+use Rattle.bucket_table.proofs.Words.{IsPermutation-append_right, IsPermutation-map, IsPermutation-refl, IsPermutation-trans, List, MarksBy}
+use Rattle.bucket_table.proofs.Words.{None, Option, Place, Side, Some, [], ap, append_assoc, arrays_with, bucket_at, bucket_on}
+use Rattle.bucket_table.proofs.Words.{bucket_with_value, buckets_on, by-no_new, by-trans, cases_eq, empty_bucket, entries_in, false}
+use Rattle.bucket_table.proofs.Words.{get_or-set_other, get_or-set_same, if◌then◌else◌, inl, inr, is_live, length, length-set}
+use Rattle.bucket_table.proofs.Words.{live_from_pair, live_pair, map, map-append, map-entries_in, marks_in, no_new-refl, pairs_in, pairs_of}
+use Rattle.bucket_table.proofs.Words.{recursion_from_All, refl, set, slot_in, slots_marked, slots_without, subst, sym, true, ℕ, ◌%◌, ◌++◌}
+use Rattle.bucket_table.proofs.Words.{◌<◌, ◌==◌, ◌∙◌, ◌∷◌, ◌≡◌}
+use Rattle.bucket_slots.proofs.PairsAfter.{entries_in-slots_without, rewritten}
 use Rattle.bucket_slots.proofs.MarksAfter.{by-one, entries_in-slots_marked, marks_in-bucket_with_value, marks_in-slots_marked}
 use Rattle.bucket_slots.proofs.MarksAfter.{marks_in-slots_without}
-use Rattle.bucket_slots.proofs.PairsAfter.{entries_in-slots_without, rewritten}
 use Rattle.bucket_slots.proofs.RoomAfter.{killed-bucket_with_value, killed-slots_marked, killed-slots_without}
 use Rattle.bucket_slots.specs.declared.bucket.TheConstants.{INDEX}
 use Rattle.bucket_table.specs.Walking.Retains.{AreLeftOf, ChangesPairs, IsLeftOf, LosesKeys, slots_taken}
 use Rattle.bucket_table.specs.Walking.Walks.{keys_in}
 use Rattle.bucket_table.proofs.Map.LockedSteps.{pair_there}
+use Rattle.bucket_table.proofs.Walking.Each.{all_permuted, each_back, each_implies, each_map, each_unmap}
+use Rattle.bucket_table.proofs.Map.MapSteps.{splits}
+use Rattle.bucket_table.proofs.Views.SideChanges.{IsChangeable, homes_on, placed_after}
+use Rattle.std.proofs.lemmas.Map.Keys.{IsDistinct-tail}
+
+pub distinct_behind : {K : Type 0} (eq : K → K → Bool) (xs ys : List K) → IsDistinct eq (xs ++ ys) → IsDistinct eq ys
+distinct_behind eq [] ys h = h
+distinct_behind eq (x ∷ xs) ys h = distinct_behind eq xs ys (IsDistinct-tail eq x (xs ++ ys) h)
+
+abbrev own : {K : Type 0} → K × ℕ → K
+own k = k.0
 
 module _ {K V : Type 0} where
-  abbrev key_of : (K × V) × ℕ → K × ℕ
+  abbrev pub key_of : (K × V) × ℕ → K × ℕ
   key_of entry = (entry.0.0, entry.1)
+
+  abbrev key : K × V → K
+  key p = p.0
 
   pub keys_same : (s : BucketView K V) → LosesKeys s s
   keys_same s = record { gone = []; keys = IsPermutation-refl (keys_in s); alive = refl }
@@ -34,6 +51,15 @@ module _ {K V : Type 0} where
       → ((byte : ℕ) × IsPermutation (entries_in s) ((p, byte) ∷ entries_in t)) → LosesKeys s t
   keys_less s t p alive (byte, out) = record { gone = (p.0, byte) ∷ []; keys = IsPermutation-map key_of _ _ out; alive = alive }
 
+  -- some entries go
+  pub keys_parted : (s t : BucketView K V) (gone : List ((K × V) × ℕ)) → t.killed ≡ s.killed
+      → IsPermutation (entries_in s) (gone ++ entries_in t) → LosesKeys s t
+  keys_parted s t gone alive parts = record {
+    gone = map key_of gone;
+    keys = subst (IsPermutation (keys_in s)) (map-append key_of gone (entries_in t)) (IsPermutation-map key_of _ _ parts);
+    alive = alive;
+  }
+
   -- a value is another
   pub keys_valued : (s : BucketView K V) (at : Place) (p : K × V) (value : V) → live_pair (slot_in s at) ≡ Some p
       → LosesKeys s (bucket_with_value s at value)
@@ -43,6 +69,53 @@ module _ {K V : Type 0} where
         gone = [];
         keys = IsPermutation-trans _ _ _ (IsPermutation-map key_of _ _ r.before_is) (IsPermutation-map key_of _ _ r.after_is);
         alive = killed-bucket_with_value s at value;
+      }
+
+  keys_are : (es : List ((K × V) × ℕ)) → map key (map (λ (e : (K × V) × ℕ). e.0) es) ≡ map own (map key_of es)
+  keys_are [] = refl
+  keys_are (e ∷ es) = ap (λ ks. e.0.0 ∷ ks) (keys_are es)
+
+  keys_of : (b : BucketView K V) (rest : List (K × V)) → map key (pairs_in b ++ rest) ≡ map own (keys_in b) ++ map key rest
+  keys_of b rest =
+      map-append key (pairs_in b) rest
+      ∙ ap (λ ks. ks ++ map key rest) (ap (map key) (sym (map-entries_in b)) ∙ keys_are (entries_in b))
+
+  -- those that are left have their home there
+  pub homes_kept : (hash : K → ℕ) (n index : ℕ) (s t : BucketView K V) → LosesKeys s t
+      → All (IsEntryHome hash n index) (entries_in s) → All (IsEntryHome hash n index) (entries_in t)
+  homes_kept hash n index s t lost homes =
+      let Own : K × ℕ → Type 0 = λ k. IsHome n (hash k.0) index × (k.1 ≡ hash k.0 % 256) in
+      let of_keys = each_map Own key_of (entries_in s)
+      (each_implies _ (λ e h. (h.home, h.own_byte)) (recursion_from_All (IsEntryHome hash n index) _ homes)) in
+      let of_left = each_unmap Own key_of (entries_in t) (each_back _ lost.gone (keys_in t) (all_permuted _ lost.keys of_keys)) in
+      All-from_recursion (IsEntryHome hash n index) (entries_in t)
+      (each_implies _ (λ e h. record { home = h.0; own_byte = h.1 }) of_left)
+
+  -- and the map stays one
+  pub one_map_losing_on : (eq : K → K → Bool) → IsEquivalence eq → (hash : K → ℕ) (a : ArraysView K V) (side : Side) (i : ℕ)
+      (left : BucketView K V) → IsOneMap eq hash a → IsChangeable a side i → LosesKeys (bucket_on a side i) left
+      → IsOneMap eq hash (arrays_with a side i left)
+  one_map_losing_on eq laws hash a side i left one changeable lost =
+      let s = splits a side i left changeable.within in
+      let rest : List (K × V) = pairs_of (arrays_with a side i empty_bucket) in
+      let before : IsPermutation (map key (pairs_of a)) (map own (keys_in (bucket_on a side i)) ++ map key rest) =
+      subst (IsPermutation (map key (pairs_of a))) (keys_of (bucket_on a side i) rest) (IsPermutation-map key _ _ s.before) in
+      let keys : IsPermutation (map own (keys_in (bucket_on a side i))) (map own lost.gone ++ map own (keys_in left)) =
+      subst (IsPermutation (map own (keys_in (bucket_on a side i)))) (map-append own lost.gone (keys_in left))
+      (IsPermutation-map own _ _ lost.keys) in
+      let parted : IsPermutation (map key (pairs_of a)) (map own lost.gone ++ (map own (keys_in left) ++ map key rest)) =
+      subst (IsPermutation (map key (pairs_of a))) (append_assoc (map own lost.gone) (map own (keys_in left)) (map key rest))
+      (IsPermutation-trans _ _ _ before (IsPermutation-append_left (map key rest) _ _ keys)) in
+      let after : IsPermutation (map own (keys_in left) ++ map key rest) (map key (pairs_of (arrays_with a side i left))) =
+      subst (λ ks. IsPermutation ks (map key (pairs_of (arrays_with a side i left)))) (keys_of left rest)
+      (IsPermutation-map key _ _ s.after) in
+      let all = IsPermutation-trans _ _ _ parted (IsPermutation-append_right (map own lost.gone) _ _ after) in
+      record {
+        distinct = distinct_behind eq (map own lost.gone) (map key (pairs_of (arrays_with a side i left)))
+            (IsDistinct-IsPermutation eq laws.symm _ _ all one.distinct);
+        placed = placed_after hash a side i left one.placed changeable
+            (homes_kept hash (length (buckets_on a side)) i (bucket_on a side i) left lost
+            (homes_on hash a side i one.placed changeable.within)) lost.alive;
       }
 
 module _ {K V : Type 0} (kind epoch : ℕ) where
@@ -88,7 +161,6 @@ module _ {K V : Type 0} (kind epoch : ℕ) where
       gone_both s (slots_taken kind epoch s at) t (gone_taken (kind == INDEX) s at p here)
       (gone_changed changes (slots_taken kind epoch s at) t rest)
 
-module _ {K V : Type 0} (kind epoch : ℕ) where
   pub left_same : (s : BucketView K V) → IsLeftOf kind epoch s s
   left_same s = ([], refl)
 

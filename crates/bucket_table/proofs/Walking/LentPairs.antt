@@ -7,10 +7,9 @@ use Rattle.std.proofs.lemmas.Bool.{and_left, and_right, lt-leb}
 use Rattle.std.proofs.lemmas.List.Filters.{length-filter_both}
 use Rattle.bucket_table.specs.Walking.Visits.{Visited}
 use Rattle.bucket_table.specs.Walking.Walks.{AreLent}
-use Rattle.bucket_table.proofs.Walking.Bounds.{all_hashes, next_multiple}
+use Rattle.bucket_table.proofs.Walking.Bounds.{all_hashes, is_in, is_out, next_multiple}
 use Rattle.bucket_table.proofs.Walking.Each.{each}
 use Rattle.bucket_table.proofs.Walking.Filters.{filter_all, filter_filter, filter_none}
-use Rattle.bucket_table.proofs.Walking.WalkSteps.{is_in, is_out}
 
 -- how many pairs were lent
 abbrev pub lent_len : {K V : Type 0} → List (Visited (BucketView K V)) → ℕ

@@ -1,7 +1,7 @@
 -- The units that a cursor works as it passes buckets.
-use Rattle.bucket_table.proofs.Words.{AreSourcesKilled, ArraysView, Err, IsInInterval, IsInRange, IsLength, KeepsArrays, Ok}
-use Rattle.bucket_table.proofs.Words.{Result, Side, WorksUnits, ap, arith, bound_of, buckets_on, cases_lt, inl, inr, interval_width}
-use Rattle.bucket_table.proofs.Words.{length, refl, subst, sym, ℕ, ◌+◌, ◌-◌, ◌<◌, ◌^◌, ◌∙◌, ◌≡◌, ◌≤◌}
+use Rattle.bucket_table.proofs.Words.{AreSourcesKilled, ArraysView, Err, IsInInterval, IsInRange, IsLength, KeepsArrays, Ok, Result, Side}
+use Rattle.bucket_table.proofs.Words.{WorksUnits, ap, arith, bound_of, buckets_on, cases_lt, inl, inr, interval_width, length, refl, subst}
+use Rattle.bucket_table.proofs.Words.{sym, ℕ, ◌+◌, ◌-◌, ◌<◌, ◌^◌, ◌∙◌, ◌≡◌, ◌≤◌}
 use Rattle.bucket_table.specs.Rehash.Units.{WantsMemory}
 use Rattle.bucket_table.specs.Views.ArraysView.{IsSource}
 use Rattle.bucket_table.specs.Walking.Cursors.{AreKilledFor, Passes, ShrinksThenPasses}

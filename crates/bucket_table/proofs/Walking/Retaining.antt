@@ -1,15 +1,14 @@
 -- A bucket is gone through by a pointer, and what a test refuses is taken out.
 use Rattle.bucket_table.proofs.Words.{AllByRecursion, Bool, BucketView, IsPermutation, IsPermutation-append_right, IsPermutation-map}
-use Rattle.bucket_table.proofs.Words.{IsPermutation-refl, IsPermutation-trans, List, MovesToNext, Place, Some, [], ap, arith, cond}
-use Rattle.bucket_table.proofs.Words.{entries_in, false, filter, is_live, length, length-append, length-map, length_permutation}
-use Rattle.bucket_table.proofs.Words.{live_from_pair, map, map-entries_in, min, not, not_from_false, not_from_true, null_place, pair_of}
-use Rattle.bucket_table.proofs.Words.{pairs_ahead, pairs_in, read_apart, refl, slot_in, sym, true, ℕ, ◌++◌, ◌+◌, ◌-◌, ◌<◌, ◌^◌}
-use Rattle.bucket_table.proofs.Words.{inl, inr, ◌∙◌, ◌∷◌, ◌≡◌, ◌≤◌}
+use Rattle.bucket_table.proofs.Words.{IsPermutation-refl, IsPermutation-trans, List, MovesToNext, Place, [], ap, arith, cond, entries_in}
+use Rattle.bucket_table.proofs.Words.{false, false≢true, filter, inl, inr, is_live, length, length-append, length-map, length_permutation}
+use Rattle.bucket_table.proofs.Words.{live_from_pair, map, map-append, map-entries_in, min, nil_from_length, not, not_from_false}
+use Rattle.bucket_table.proofs.Words.{not_from_true, null_place, pairs_ahead, pairs_in, refl, slot_in, sym, true, ℕ, ◌++◌, ◌+◌, ◌-◌, ◌<◌}
+use Rattle.bucket_table.proofs.Words.{◌^◌, ◌∙◌, ◌∷◌, ◌≡◌, ◌≤◌}
 use Rattle.std.proofs.lemmas.Bool.{not-false}
 use Rattle.std.proofs.lemmas.List.Sorted.{IsPermutation-middle}
-use Rattle.std.specs.Option.{option_map}
 use Rattle.bucket_table.specs.Walking.Retains.{Retains, RetainsPair}
-use Rattle.bucket_table.proofs.Walking.Each.{each_implies, map_append, none_pass, nothing}
+use Rattle.bucket_table.proofs.Walking.Each.{each_implies, none_in, none_pass}
 use Rattle.bucket_table.proofs.Walking.Filters.{IsPermutation-filter}
 
 module _ {K V : Type 0} where
@@ -22,16 +21,7 @@ module _ {K V : Type 0} where
       → IsPermutation (pairs_in s) (map (λ (e : (K × V) × ℕ). e.0) xs ++ pairs_in t)
   pairs_moved xs s t moved =
       let f : (K × V) × ℕ → K × V = λ e. e.0 in
-      rw (← map-entries_in s, ← map-entries_in t, ← map_append f xs (entries_in t)) (IsPermutation-map f _ _ moved)
-
-  -- the pair that a pointer reads is the one that a walk moved to
-  pub same_pair : (now : BucketView K V) (at next : Place) (m : MovesToNext now at next) (k : K) (v : V)
-      → option_map (λ p. p.0) (pair_of (slot_in now next)) ≡ Some k
-      → option_map (λ p. p.1) (pair_of (slot_in now next)) ≡ Some v → m.pair ≡ (k, v)
-  same_pair now at next m k v first second =
-      let read = read_apart (slot_in now next) k v (live_from_pair (slot_in now next) m.pair m.here) first second in
-      let same : Some m.pair ≡ Some (k, v) = sym m.here ∙ read in
-      cc
+      rw (← map-entries_in s, ← map-entries_in t, ← map-append f xs (entries_in t)) (IsPermutation-map f _ _ moved)
 
 module _ {K V : Type 0} (test : K × V → Bool) where
   abbrev pub refuses : K × V → Bool
@@ -133,24 +123,19 @@ module _ {K V : Type 0} (IsTest : (K × V → Bool) → Type 0) where
         counted = omega (arith, less, fits, is);
         refused = r.refused;
         kept = λ test means.
-            let none = none_pass (refuses test) (pairs_in now) (nothing _ (r.ahead test means ∙ ap (refused_len test) e)) in
-            each_implies (λ p. refuses test p ≡ false) (λ p. test p ≡ true) (λ p h. not-false (test p) h) (pairs_in now) none;
+            each_implies _ (λ p h. not-false (test p) h)
+            (none_pass (refuses test) (pairs_in now) (nil_from_length _ (r.ahead test means ∙ ap (refused_len test) e)));
         unchanged = λ none. r.unchanged (omega (arith, less, is, none));
       }
 
-module _ {K V : Type 0} (IsTest : (K × V → Bool) → Type 0) where
   -- a test that refuses all leaves none, and counts all
   pub retains_none : (old new : BucketView K V) (count : ℕ) → IsTest (λ pair. false) → Retains IsTest old new count
       → (pairs_in new ≡ []) × (count ≡ min (length (pairs_in old)) (2 ^ 64 - 1))
   retains_none old new count means r =
       let first : (K × V) × ℕ → K × V = λ e. e.0 in
-      let none : pairs_in new ≡ [] = no_elements (pairs_in new) (r.kept (λ pair. false) means) in
+      let none : pairs_in new ≡ [] = none_in (λ pair is. false≢true is) (r.kept (λ pair. false) means) in
       let parts = length_permutation _ _ (pairs_moved r.gone old new r.parts) in
       let both = length-append (map first r.gone) (pairs_in new) in
       let gone = length-map r.gone first in
       let left = ap length none in
       (none, let told = r.counted in omega (arith, told, parts, both, gone, left))
-    where
-      no_elements : (ps : List (K × V)) → AllByRecursion (λ pair. false ≡ true) ps → ps ≡ []
-      no_elements [] h = refl
-      no_elements (p ∷ ps) h = let no : false ≡ true = h.0 in absurd cc

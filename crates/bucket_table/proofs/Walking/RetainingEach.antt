@@ -1,7 +1,7 @@
 -- A closure is asked for each pair of a bucket, with the pair's value lent.
-use Rattle.bucket_table.proofs.Words.{Bool, BucketView, List, MovesToNext, Option, Place, [], ap, append-nil, append_assoc, arith}
-use Rattle.bucket_table.proofs.Words.{false, if◌then◌else◌, inl, inr, length, length-append, null_place, pairs_ahead, pairs_in, refl}
-use Rattle.bucket_table.proofs.Words.{subst, sym, true, ℕ, ◌++◌, ◌+◌, ◌∙◌, ◌∷◌, ◌≡◌, ◌≤◌, ◌⊎◌}
+use Rattle.bucket_table.proofs.Words.{Bool, BucketView, List, MovesToNext, Option, Place, [], ap, append-nil, append_assoc, arith, false}
+use Rattle.bucket_table.proofs.Words.{if◌then◌else◌, inl, inr, length, length-append, null_place, pairs_ahead, pairs_in, refl, subst, sym}
+use Rattle.bucket_table.proofs.Words.{true, ℕ, ◌++◌, ◌+◌, ◌∙◌, ◌∷◌, ◌≡◌, ◌≤◌, ◌⊎◌}
 use Rattle.std.specs.Borrow.{Bor, MutBor}
 use Rattle.bucket_table.specs.Walking.Extracting.{AsksAt}
 use Rattle.bucket_table.specs.Walking.Retains.{RetainsEach}

@@ -1,10 +1,8 @@
 -- A closure is asked for each pair of a table, bucket after bucket.
-use Rattle.bucket_table.proofs.Words.{ArraysView, Bool, BucketView, IsDistinct-IsPermutation, IsEquivalence, IsOneMap}
-use Rattle.bucket_table.proofs.Words.{IsPermutation, IsPermutation-append_left, IsPermutation-append_right, IsPermutation-map}
-use Rattle.bucket_table.proofs.Words.{IsPermutation-trans, List, MarksBy, Side, [], ap, append-nil, append_assoc, arith, arrays_with}
-use Rattle.bucket_table.proofs.Words.{bucket_at, bucket_on, buckets_on, by-no_new, cases_lt, empty_bucket, inl, inr, entries_in, length}
-use Rattle.bucket_table.proofs.Words.{length-append, map, map-entries_in, marks_in, marks_of, min, no_new-refl, pairs_in}
-use Rattle.bucket_table.proofs.Words.{pairs_of, refl, set, subst, sym, take, ℕ, ◌++◌, ◌+◌, ◌-◌, ◌<◌, ◌^◌, ◌∙◌, ◌∷◌, ◌≡◌, ◌≤◌}
+use Rattle.bucket_table.proofs.Words.{ArraysView, Bool, BucketView, IsEquivalence, IsOneMap, List, MarksBy, [], ap, append-nil, arith}
+use Rattle.bucket_table.proofs.Words.{bucket_at, by-no_new, cases_lt, empty_bucket, inl, inr, length, length-append, marks_in, marks_of}
+use Rattle.bucket_table.proofs.Words.{min, no_new-refl, pairs_in, pairs_of, refl, set, subst, sym, take, ℕ, ◌++◌, ◌+◌, ◌-◌, ◌<◌, ◌^◌, ◌∙◌}
+use Rattle.bucket_table.proofs.Words.{◌∷◌, ◌≡◌, ◌≤◌}
 use Rattle.std.specs.Borrow.{Bor, MutBor}
 use Rattle.std.proofs.Common.{drop, drop-drop, drop-set-lt, get_or-drop}
 use Rattle.std.proofs.lemmas.List.{get_or-append-add, get_or_append_left, get_or_past, take_all, take_more, take_more_set}
@@ -15,57 +13,13 @@ use Rattle.bucket_table.specs.Map.LookingUp.{pairs_in_all}
 use Rattle.bucket_table.specs.Walking.Extracting.{KeepsShape}
 use Rattle.bucket_table.specs.Walking.Retains.{AreLeftOf, LosesKeys, RetainsEach, RetainsIn, gone_len}
 use Rattle.bucket_table.specs.Walking.Row.{row_of, row_with}
-use Rattle.bucket_table.specs.Walking.Walks.{keys_in}
-use Rattle.bucket_table.proofs.Map.MapSteps.{splits}
-use Rattle.bucket_table.proofs.Views.SideChanges.{changeable_filled, homes_on}
-use Rattle.bucket_table.proofs.Views.SideChanges.{placed_after}
-use Rattle.bucket_table.proofs.Walking.Each.{map_append}
-use Rattle.bucket_table.proofs.Walking.Leaving.{all_left_at, all_left_both, all_left_same, gone_changed, left_same}
+use Rattle.bucket_table.proofs.Views.SideChanges.{changeable_filled}
+use Rattle.bucket_table.proofs.Walking.Leaving.{all_left_at, all_left_both, all_left_same, gone_changed, left_same, one_map_losing_on}
 use Rattle.bucket_table.proofs.Walking.Row.{all_joined, marks_in_row, pairs_in_row, row_of-row_with, row_with-same, shape_both, shape_with}
 use Rattle.bucket_table.proofs.Walking.Row.{stands}
 use Rattle.bucket_table.proofs.Walking.RetainingEach.{asked_both, asked_fewer}
-use Rattle.bucket_table.proofs.Walking.TableCursor.{distinct_behind}
-use Rattle.bucket_table.proofs.Walking.Visiting.{homes_kept, keys_are}
-
-module _ {K : Type 0} where
-  abbrev own : K × ℕ → K
-  own k = k.0
 
 module _ {K V : Type 0} where
-  abbrev key : K × V → K
-  key p = p.0
-
-  keys_of : (b : BucketView K V) (rest : List (K × V)) → map key (pairs_in b ++ rest) ≡ map own (keys_in b) ++ map key rest
-  keys_of b rest =
-      map_append key (pairs_in b) rest
-      ∙ ap (λ ks. ks ++ map key rest) (ap (map key) (sym (map-entries_in b)) ∙ keys_are (entries_in b))
-
-  one_map_losing_on : (eq : K → K → Bool) → IsEquivalence eq → (hash : K → ℕ) (a : ArraysView K V) (side : Side) (i : ℕ)
-      (left : BucketView K V) → IsOneMap eq hash a → i < length (buckets_on a side) → (pairs_in (bucket_on a side i) ≡ [] → ⊥)
-      → LosesKeys (bucket_on a side i) left → IsOneMap eq hash (arrays_with a side i left)
-  one_map_losing_on eq laws hash a side i left one within some lost =
-      let s = splits a side i left within in
-      let rest : List (K × V) = pairs_of (arrays_with a side i empty_bucket) in
-      let before : IsPermutation (map key (pairs_of a)) (map own (keys_in (bucket_on a side i)) ++ map key rest) =
-      subst (IsPermutation (map key (pairs_of a))) (keys_of (bucket_on a side i) rest) (IsPermutation-map key _ _ s.before) in
-      let keys : IsPermutation (map own (keys_in (bucket_on a side i))) (map own lost.gone ++ map own (keys_in left)) =
-      subst (IsPermutation (map own (keys_in (bucket_on a side i)))) (map_append own lost.gone (keys_in left))
-      (IsPermutation-map own _ _ lost.keys) in
-      let parted : IsPermutation (map key (pairs_of a)) (map own lost.gone ++ (map own (keys_in left) ++ map key rest)) =
-      subst (IsPermutation (map key (pairs_of a))) (append_assoc (map own lost.gone) (map own (keys_in left)) (map key rest))
-      (IsPermutation-trans _ _ _ before (IsPermutation-append_left (map key rest) _ _ keys)) in
-      let after : IsPermutation (map own (keys_in left) ++ map key rest) (map key (pairs_of (arrays_with a side i left))) =
-      subst (λ ks. IsPermutation ks (map key (pairs_of (arrays_with a side i left)))) (keys_of left rest)
-      (IsPermutation-map key _ _ s.after) in
-      let all = IsPermutation-trans _ _ _ parted (IsPermutation-append_right (map own lost.gone) _ _ after) in
-      record {
-        distinct = distinct_behind eq (map own lost.gone) (map key (pairs_of (arrays_with a side i left)))
-            (IsDistinct-IsPermutation eq laws.symm _ _ all one.distinct);
-        placed = placed_after hash a side i left one.placed (changeable_filled hash a side i one.placed within some)
-            (homes_kept hash (length (buckets_on a side)) i (bucket_on a side i) left lost.gone lost.keys
-            (homes_on hash a side i one.placed within)) lost.alive;
-      }
-
   -- a bucket with a pair may lose keys
   pub one_map_losing : (eq : K → K → Bool) → IsEquivalence eq → (hash : K → ℕ) (a : ArraysView K V) (index : ℕ) (left : BucketView K V)
       → IsOneMap eq hash a → index < length (row_of a) → (pairs_in (bucket_at (row_of a) index) ≡ [] → ⊥)
@@ -73,7 +27,8 @@ module _ {K V : Type 0} where
   one_map_losing eq laws hash a index left one within some lost =
       let on = stands a index within in
       rw (on.with left)
-      (one_map_losing_on eq laws hash a on.side on.own left one on.within (subst (λ b. pairs_in b ≡ [] → ⊥) (sym on.bucket) some)
+      (one_map_losing_on eq laws hash a on.side on.own left one
+      (changeable_filled hash a on.side on.own one.placed on.within (subst (λ b. pairs_in b ≡ [] → ⊥) (sym on.bucket) some))
       (subst (λ b. LosesKeys b left) (sym on.bucket) lost))
 
   pairs_in_all-more : (bs : List (BucketView K V)) (b : BucketView K V) → pairs_in_all (bs ++ b ∷ []) ≡ pairs_in_all bs ++ pairs_in b

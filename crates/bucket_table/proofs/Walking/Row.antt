@@ -1,10 +1,10 @@
 -- The buckets of both arrays in a row: where one stands, and the pairs behind a place.
-use Rattle.bucket_table.proofs.Words.{AreArrays, ArraysView, BucketView, Current, List, MovesToNext, Old, Option, Place, Side, Slot, Some, [], ap}
-use Rattle.bucket_table.proofs.Words.{append_assoc, arith, arrays_with, bucket_at, bucket_on, buckets_on, cases_lt, empty_bucket}
-use Rattle.bucket_table.proofs.Words.{flattened, get_or, get_or-set_same, inl, inr, length, length-append, length-set, live_pair, live_pairs, marks_of}
-use Rattle.bucket_table.proofs.Words.{entries_among, entries_in, entries_of, marks_among, marks_in, nil_from_length, null_place, pairs_ahead}
-use Rattle.bucket_table.proofs.Words.{pairs_in, pairs_of, refl, set, slot_in, subst, suc, sym, take, zero, ℕ, ◌++◌, ◌+◌, ◌-◌, ◌<◌, ◌∙◌}
-use Rattle.bucket_table.proofs.Words.{◌∷◌, ◌≡◌, ◌≤◌}
+use Rattle.bucket_table.proofs.Words.{AreArrays, ArraysView, BucketView, Current, List, MovesToNext, Old, Option, Place, Side, Slot, Some}
+use Rattle.bucket_table.proofs.Words.{[], ap, append_assoc, arith, arrays_with, bucket_at, bucket_on, buckets_on, cases_lt, empty_bucket}
+use Rattle.bucket_table.proofs.Words.{entries_among, entries_in, entries_of, flattened, get_or, get_or-set_same, inl, inr, length}
+use Rattle.bucket_table.proofs.Words.{length-append, length-set, live_pair, live_pairs, marks_among, marks_in, marks_of, nil_from_length}
+use Rattle.bucket_table.proofs.Words.{null_place, pairs_ahead, pairs_in, pairs_of, refl, set, slot_in, subst, suc, sym, take, zero, ℕ, ◌++◌}
+use Rattle.bucket_table.proofs.Words.{◌+◌, ◌-◌, ◌<◌, ◌∙◌, ◌∷◌, ◌≡◌, ◌≤◌}
 use Rattle.std.proofs.Common.{drop}
 use Rattle.std.specs.Option.{unwrap_or}
 use Rattle.std.proofs.Math.Numerals.{add-one}

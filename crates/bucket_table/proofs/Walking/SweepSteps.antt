@@ -1,14 +1,14 @@
 -- A cursor sweeps a table.
 use Rattle.bucket_table.proofs.Words.{ArePlaced, ArraysView, Bool, BucketView, Current, Err, HasNoNewMark, IsLength, IsLocked}
 use Rattle.bucket_table.proofs.Words.{IsPermutation, KeepsOpenTickets, KeepsPairs, MarksBy, Ok, Place, Result, TableView, [], ap, arith}
-use Rattle.bucket_table.proofs.Words.{arrays_with, bound_of, bucket_on, by-no_new, by-trans, counted, length, marks_of, min, pairs_ahead}
-use Rattle.bucket_table.proofs.Words.{pairs_in, pairs_of, refl, subst, sym, ℕ, ◌++◌, ◌+◌, ◌-◌, ◌<◌, ◌^◌, ◌∙◌, ◌∷◌, ◌≡◌, ◌≢◌, ◌≤◌}
-use Rattle.std.proofs.lemmas.List.{length-set}
+use Rattle.bucket_table.proofs.Words.{arrays_with, bound_of, bucket_on, by-no_new, by-trans, counted, inl, inr, length, length-set}
+use Rattle.bucket_table.proofs.Words.{marks_of, min, pairs_ahead, pairs_in, pairs_of, refl, subst, sym, ℕ, ◌++◌, ◌+◌, ◌-◌, ◌<◌, ◌^◌, ◌∙◌}
+use Rattle.bucket_table.proofs.Words.{◌∷◌, ◌≡◌, ◌≢◌, ◌≤◌, ◌⊎◌}
 use Rattle.bucket_table.specs.Walking.Cursors.{IsFoundFrom, Leaves, ReachesPast, SetsOut, ShrinksThenPasses}
 use Rattle.bucket_table.specs.Map.MapState.{state_of}
 use Rattle.bucket_table.specs.Walking.Retains.{IsSwept, IsSweptBelow}
 use Rattle.bucket_table.specs.Views.Settings.{KeepsSettings}
-use Rattle.bucket_table.specs.Walking.Sweeps.{RetainsAt, SweepState, Sweeps, SweepsAt}
+use Rattle.bucket_table.specs.Walking.Sweeps.{RetainsAt, Sweeps, SweepsAt}
 use Rattle.bucket_table.specs.declared.arrays.Missing.{Missing}
 use Rattle.bucket_table.specs.declared.arrays.Missing.TheVariants.{Memory, Nothing}
 use Rattle.bucket_table.proofs.Walking.Bounds.{bound_fits}
@@ -39,15 +39,16 @@ module _ {K V : Type 0} (IsTest : (K × V → Bool) → Type 0) (hash : K → �
       × (pairs_in (bucket_on now Current index) ≢ [])
   SweepsOn old now count (Err missing) = IsOver old now count missing
 
-  -- a sweep that has come to a bound goes on where a cursor does
+  -- a sweep that has come to a bound, or begins, goes on where a cursor does
   sweep_goes : (old now next : ArraysView K V) (count high : ℕ) (found : Result ℕ Missing) (at : Place)
       → IsSweeping IsTest hash (pairs_of old) (pairs_of now) high high count
       → IsPermutation (pairs_of now) (pairs_of next) → IsFoundFrom hash high found next at
-      → ReachesPast high found next → SweepsOn old next count found
+      → ReachesPast high found next ⊎ (high ≡ 0) → SweepsOn old next count found
   sweep_goes old now next count high (Ok index) at s kept goes past = (
     goes.locked,
     sweep_moves IsTest hash (pairs_of old) (pairs_of now) (pairs_of next) (bound_of (length next.current) index) high
-        (bound_of (length next.current) (index + 1)) count kept (omega (arith, past)) goes.passed s,
+        (bound_of (length next.current) (index + 1)) count kept
+        (elim past [ inl more ↦ omega (arith, more) | inr none ↦ omega (arith, none) ]) goes.passed s,
     λ none. let there : [] ≡ goes.pair ∷ pairs_ahead (bucket_on next Current index) at = sym none ∙ goes.first in cc,
   )
   sweep_goes old now next count high (Err Nothing) at s kept goes past = sweep_ends IsTest hash (pairs_of old) (pairs_of now)
@@ -55,96 +56,28 @@ module _ {K V : Type 0} (IsTest : (K × V → Bool) → Type 0) (hash : K → �
   sweep_goes old now next count high (Err Memory) at s kept goes past =
       (high, λ test means. sweep_stops IsTest hash (pairs_of old) (pairs_of now) (pairs_of next) high count s kept test means)
 
-  -- nothing is swept yet
-  sweep_none : (old : ArraysView K V) → IsSweeping IsTest hash (pairs_of old) (pairs_of old) 0 0 0
-  sweep_none old = sweep_begins IsTest hash (pairs_of old) 0 0 (omega arith)
-
-  -- it sets out at the first live pair
-  sweep_sets_out : (old next : ArraysView K V) (found : Result ℕ Missing) (at : Place)
-      → IsPermutation (pairs_of old) (pairs_of next) → IsFoundFrom hash 0 found next at → SweepsOn old next 0 found
-  sweep_sets_out old next (Ok index) at kept goes = (
-    goes.locked,
-    sweep_moves IsTest hash (pairs_of old) (pairs_of old) (pairs_of next) (bound_of (length next.current) index) 0
-        (bound_of (length next.current) (index + 1)) 0 kept (omega arith) goes.passed (sweep_none old),
-    λ none. let there : [] ≡ goes.pair ∷ pairs_ahead (bucket_on next Current index) at = sym none ∙ goes.first in cc,
-  )
-  sweep_sets_out old next (Err Nothing) at kept goes = sweep_ends IsTest hash (pairs_of old) (pairs_of old) (pairs_of next) 0 0
-      (sweep_none old) kept (goes.none refl)
-  sweep_sets_out old next (Err Memory) at kept goes =
-      (0, λ test means. sweep_stops IsTest hash (pairs_of old) (pairs_of old) (pairs_of next) 0 0 (sweep_none old) kept test means)
-
   -- it has swept the bucket
-  sweep_through : {kind epoch : ℕ} (old now visited : ArraysView K V) (count taken more index : ℕ)
-      (place : Result ℕ Missing) → ArePlaced hash now → place ≡ Ok index → SweepsOn old now count place
-      → RetainsAt IsTest kind epoch now index taken visited → more ≡ min (count + taken) (2 ^ 64 - 1)
-      → IsSweeping IsTest hash (pairs_of old) (pairs_of visited) (bound_of (length now.current) (index + 1))
-      (bound_of (length now.current) (index + 1)) more
-  sweep_through old now visited count taken more index place law is s r counted =
-      let here = subst (λ (p : Result ℕ Missing). SweepsOn old now count p) is s in
-      let split = splits hash now index law here.0.within (here.0.killed refl) in
-      rw r.new_is (sweep_visits IsTest hash (length now.current) index (pairs_of old) (pairs_of now)
-      (pairs_of (arrays_with now Current index r.left)) (bucket_on now Current index) r.left count taken more here.1
+  sweep_through : {kind epoch : ℕ} (old now visited : ArraysView K V) (count taken more index : ℕ) → ArePlaced hash now
+      → SweepsOn old now count (Ok index) → RetainsAt IsTest kind epoch now index taken visited → more ≡ min (count + taken) (2 ^ 64 - 1)
+      → IsSweeping IsTest hash (pairs_of old) (pairs_of visited) (bound_of (length visited.current) (index + 1))
+      (bound_of (length visited.current) (index + 1)) more
+  sweep_through old now visited count taken more index law s r counted =
+      let split = splits hash now index law s.0.within (s.0.killed refl) in
+      rw (r.new_is, length-set now.current index r.left) (sweep_visits IsTest hash (length now.current) index (pairs_of old) (pairs_of now)
+      (pairs_of (arrays_with now Current index r.left)) (bucket_on now Current index) r.left count taken more s.1
       (taken_there hash now index split) (changed_there hash now index split r.left) r.retains counted)
 
-module _ {K V : Type 0} where
-  -- a bucket that was swept leaves as many current buckets
-  same_len : {kind epoch : ℕ} (IsTest : (K × V → Bool) → Type 0) (now visited : ArraysView K V) (index taken : ℕ)
-      → RetainsAt IsTest kind epoch now index taken visited → length visited.current ≡ length now.current
-  same_len IsTest now visited index taken r = ap (λ (a : ArraysView K V). length a.current) r.new_is ∙ length-set now.current index r.left
-
-module _ {K V H : Type 0} where
-  -- a table's sweep goes on where its cursor does
-  goes_seen_by : (IsTest : (K × V → Bool) → Type 0) (hash : H → K → ℕ)
-      (old visited : TableView K V H) (next : ArraysView K V) (index count len : ℕ) (found : Result ℕ Missing) (at : Place)
-      → visited.hasher ≡ old.hasher → length visited.arrays.current ≡ len
-      → IsSweeping IsTest (hash old.hasher) (pairs_of old.arrays) (pairs_of visited.arrays)
-      (bound_of len (index + 1)) (bound_of len (index + 1)) count → IsPermutation (pairs_of visited.arrays) (pairs_of next)
-      → IsFoundFrom (hash visited.hasher) (bound_of (length visited.arrays.current) (index + 1)) found next at
-      → ReachesPast (bound_of (length visited.arrays.current) (index + 1)) found next
-      → SweepsOn IsTest (hash old.hasher) old.arrays next count found
-  goes_seen_by IsTest hash old visited next index count len found at same long s kept goes past =
-      let goes' = subst (λ (h : H). IsFoundFrom (hash h) (bound_of (length visited.arrays.current) (index + 1)) found next at) same goes in
-      let s' = subst (λ (n : ℕ). IsSweeping IsTest (hash old.hasher) (pairs_of old.arrays)
-      (pairs_of visited.arrays) (bound_of n (index + 1)) (bound_of n (index + 1)) count) (sym long) s in
-      sweep_goes IsTest (hash old.hasher) old.arrays visited.arrays next count (bound_of (length visited.arrays.current) (index + 1)) found
-      at s' kept goes' past
-
 module _ {K V : Type 0} (IsTest : (K × V → Bool) → Type 0) where
-  -- a sweep's course so far, and one bucket more
-  course_more : {kind epoch : ℕ} (old now visited next : ArraysView K V) (index count : ℕ) (here place : Result ℕ Missing)
-      → here ≡ Ok index → Sweeps IsTest kind epoch old (record { place = here; arrays = now })
-      → RetainsAt IsTest kind epoch now index count visited → ShrinksThenPasses (λ to. to) Current index visited place next
-      → Sweeps IsTest kind epoch old (record { place = place; arrays = next })
-  course_more {kind = kind} {epoch = epoch} old now visited next index count here place is s retained departs =
-      let before : SweepState K V = record { place = here; arrays = now } in
-      let after : SweepState K V = record { place = place; arrays = next } in
-      let step : SweepsAt IsTest kind epoch before index place after = record {
-        here = is;
-        next = refl;
-        visited = visited;
-        count = count;
-        retained = retained;
-        departs = departs;
-      } in
-      record {
-        first = s.first;
-        sets_out = s.sets_out;
-        indices = s.indices ++ index ∷ [];
-        places = s.places ++ place ∷ [];
-        run = run_more (SweepsAt IsTest kind epoch) s.first before after s.indices s.places index place s.run step;
-      }
-
   -- without an old array nothing changes as long as no pair is refused
   course_alone : {kind epoch : ℕ} (now visited next : ArraysView K V) (index taken : ℕ) (place : Result ℕ Missing)
       → pairs_in (bucket_on now Current index) ≢ [] → RetainsAt IsTest kind epoch now index taken visited
       → ShrinksThenPasses (λ to. to) Current index visited place next
       → length now.linked ≡ 0 → taken ≡ 0 → next ≡ now
   course_alone now visited next index taken place some r d alone none =
-      let same : visited ≡ now = r.new_is ∙ ap (λ (b : BucketView K V). arrays_with now Current index b) (r.retains.unchanged none) ∙
-      arrays_with-same now Current index in
-      let quiet : pairs_in (bucket_on visited Current index) ≢ [] = subst
-      (λ (a : ArraysView K V). pairs_in (bucket_on a Current index) ≢ []) (sym same) some in
-      let between : d.between ≡ visited = not_asked (λ asked. quiet asked.0) d.asked in
+      let same : visited ≡ now = r.new_is ∙ ap (λ (b : BucketView K V). arrays_with now Current index b) (r.retains.unchanged none)
+      ∙ arrays_with-same now Current index in
+      let between : d.between ≡ visited =
+      not_asked (λ asked. some (ap (λ (a : ArraysView K V). pairs_in (bucket_on a Current index)) (sym same) ∙ asked.0)) d.asked in
       let beside : length d.between.linked ≡ 0 = ap (λ (a : ArraysView K V). length a.linked) (between ∙ same) ∙ alone in
       d.passes.alone beside ∙ between ∙ same
 
@@ -161,7 +94,8 @@ module _ {K V H : Type 0} (IsTest : (K × V → Bool) → Type 0) (hash : H → 
       → SetsOut kind hash old place at next → SweepStands next 0 place
   stands_first next place at o = record {
     settings = settings_kept kind old next o.map o.bag;
-    on = sweep_sets_out IsTest (hash old.hasher) old.arrays next.arrays place at o.map.pairs o.found;
+    on = sweep_goes IsTest (hash old.hasher) old.arrays old.arrays next.arrays 0 0 place at
+        (sweep_begins IsTest (hash old.hasher) (pairs_of old.arrays)) o.map.pairs o.found (inr refl);
     course = record {
       first = record { place = place; arrays = next.arrays };
       sets_out = o.passes;
@@ -185,18 +119,34 @@ module _ {K V H : Type 0} (IsTest : (K × V → Bool) → Type 0) (hash : H → 
   stands_next now visited next count taken more index here place at s is law same retained counted kept bag leaves none_new departs =
       let law' = subst (λ (h : H). ArePlaced (hash h) now.arrays) s.settings.hasher law in
       let seen = settings_both old now visited s.settings (settings_swept IsTest now visited index taken same retained) in
-      let on = sweep_through IsTest (hash old.hasher) old.arrays now.arrays visited.arrays count taken more index here law' is s.on retained
+      let on = subst (λ (p : Result ℕ Missing). SweepsOn IsTest (hash old.hasher) old.arrays now.arrays count p) is s.on in
+      let through = sweep_through IsTest (hash old.hasher) old.arrays now.arrays visited.arrays count taken more index law' on retained
       counted in
-      let some = (subst (λ (p : Result ℕ Missing). SweepsOn IsTest (hash old.hasher) old.arrays now.arrays count p) is s.on).2 in
+      let found = subst (λ (h : H). IsFoundFrom (hash h) (bound_of (length visited.arrays.current) (index + 1)) place next.arrays at)
+      seen.hasher leaves.0 in
       record {
         settings = settings_both old visited next seen (settings_kept kind visited next kept bag);
-        on = goes_seen_by IsTest hash old visited next.arrays index more _ place at seen.hasher
-            (same_len IsTest now.arrays visited.arrays index taken retained) on kept.pairs leaves.0 leaves.1;
-        course = course_more IsTest old.arrays now.arrays visited.arrays next.arrays index taken here place is s.course retained departs;
+        on = sweep_goes IsTest (hash old.hasher) old.arrays visited.arrays next.arrays more _ place at through kept.pairs found
+            (inl leaves.1);
+        course = record {
+          first = s.course.first;
+          sets_out = s.course.sets_out;
+          indices = s.course.indices ++ index ∷ [];
+          places = s.course.places ++ place ∷ [];
+          run = run_more (SweepsAt IsTest kind epoch) s.course.first (record { place = here; arrays = now.arrays })
+              (record { place = place; arrays = next.arrays }) s.course.indices s.course.places index place s.course.run (record {
+                here = is;
+                next = refl;
+                visited = visited.arrays;
+                count = taken;
+                retained = retained;
+                departs = departs;
+              });
+        };
         alone = λ none no_more.
             let before = s.alone none (omega (arith, counted, no_more)) in
             let beside : length now.arrays.linked ≡ 0 = ap (λ (a : ArraysView K V). length a.linked) before ∙ none in
-            course_alone IsTest now.arrays visited.arrays next.arrays index taken place some retained departs beside
+            course_alone IsTest now.arrays visited.arrays next.arrays index taken place on.2 retained departs beside
             (omega (arith, counted, no_more)) ∙ before;
         marks = by-trans epoch (marks_of old.arrays) (marks_of visited.arrays) (marks_of next.arrays)
             (by-trans epoch (marks_of old.arrays) (marks_of now.arrays) (marks_of visited.arrays) s.marks
@@ -213,7 +163,7 @@ module _ {K V H : Type 0} (IsTest : (K × V → Bool) → Type 0) (hash : H → 
       let len : ℕ = length now.arrays.current in
       let locked = (subst (λ (p : Result ℕ Missing). SweepsOn IsTest (hash old.hasher) old.arrays now.arrays count p) is s.on).0 in
       let within : index < len = locked.within in
-      let same = same_len IsTest now.arrays visited index taken retained in
+      let same = ap (λ (a : ArraysView K V). length a.current) retained.new_is ∙ length-set now.arrays.current index retained.left in
       let past' = subst (λ (n : ℕ). ReachesPast (bound_of n (index + 1)) place next) same past in
       subst (λ (p : Result ℕ Missing). hashes_left (length next.current) place < hashes_left len p) (sym is)
       (fewer (bound_of len (index + 1)) place (bound_fits len index (long (omega (arith, within))) within) past')

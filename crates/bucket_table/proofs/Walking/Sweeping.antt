@@ -1,18 +1,17 @@
 -- A map is swept by hashes: what a test refuses below a bound is gone.
 use Rattle.bucket_table.proofs.Words.{AllByRecursion, Bool, BucketView, HasNoneFrom, IsPermutation, IsPermutation-append_left}
-use Rattle.bucket_table.proofs.Words.{IsPermutation-append_right, IsPermutation-refl, IsPermutation-trans, List, [], ap, append_assoc}
-use Rattle.bucket_table.proofs.Words.{arith, bound_of, cases_lt, false, false_from_ne_true, filter, filter-append, inl, inr, le-leb}
-use Rattle.bucket_table.proofs.Words.{leb-true, length, length-append, length-map, length_permutation, map, min, nat_le, not}
-use Rattle.bucket_table.proofs.Words.{not_from_false, not_from_true, pairs_in, recursion_from_All, refl, subst, sym, true, true≢false, ℕ}
-use Rattle.bucket_table.proofs.Words.{◌++◌, ◌+◌, ◌-◌, ◌<◌, ◌^◌, ◌∙◌, ◌∷◌, ◌≡◌, ◌≤◌}
+use Rattle.bucket_table.proofs.Words.{IsPermutation-append_right, IsPermutation-refl, IsPermutation-trans, List, [], ap, append-nil}
+use Rattle.bucket_table.proofs.Words.{append_assoc, arith, bound_of, cases_lt, false, filter, filter-append, inl, inr, le-leb, length}
+use Rattle.bucket_table.proofs.Words.{length-append, length-map, length_permutation, map, min, nat_le, not, not_from_false, not_from_true}
+use Rattle.bucket_table.proofs.Words.{pairs_in, recursion_from_All, refl, subst, sym, true, true≢false, ℕ, ◌++◌, ◌+◌, ◌-◌, ◌<◌, ◌^◌, ◌∙◌}
+use Rattle.bucket_table.proofs.Words.{◌≡◌, ◌≤◌}
 use Rattle.std.proofs.Common.{◌||◌}
-use Rattle.std.proofs.lemmas.Bool.{or_from, or_left, or_right}
-use Rattle.std.proofs.lemmas.List.{append-nil}
+use Rattle.std.proofs.lemmas.Bool.{lt-leb, or_from, or_left, or_right}
 use Rattle.std.proofs.lemmas.List.Elements.{filter_passes}
 use Rattle.std.proofs.lemmas.List.Sorted.{IsPermutation-filter_both}
 use Rattle.bucket_table.specs.Walking.Retains.{IsSwept, IsSweptBelow, Retains}
 use Rattle.bucket_table.proofs.Walking.Bounds.{HasNoneBetween, bounds, is_in, is_inside}
-use Rattle.bucket_table.proofs.Walking.Each.{all_permuted, each_append, each_both, each_filter, each_front, each_implies, each_map}
+use Rattle.bucket_table.proofs.Walking.Each.{all_permuted, each, each_append, each_both, each_filter, each_front, each_implies, each_map}
 use Rattle.bucket_table.proofs.Walking.Filters.{IsPermutation-filter, filter_all, filter_none}
 use Rattle.bucket_table.proofs.Walking.Retaining.{pairs_moved}
 
@@ -27,19 +26,15 @@ module _ {K V : Type 0} (IsTest : (K × V → Bool) → Type 0) (hash : K → �
     pub kept : (test : K × V → Bool) → IsTest test → AllByRecursion (λ pair. hash pair.0 < low → test pair ≡ true) now
 
   -- nothing is gone
-  pub sweep_begins : (old : List (K × V)) (low high : ℕ) → low ≡ 0 → IsSweeping old old low high 0
-  sweep_begins old low high zero_low = record {
+  pub sweep_begins : (old : List (K × V)) → IsSweeping old old 0 0 0
+  sweep_begins old = record {
     gone = [];
     parts = IsPermutation-refl old;
     counted = omega arith;
     early = tt;
     refused = λ test means. tt;
-    kept = λ test means. each test old;
+    kept = λ test means. each (λ pair less. absurd (omega (arith, less))) old;
   }
-    where
-      each : (test : K × V → Bool) (ps : List (K × V)) → AllByRecursion (λ pair. hash pair.0 < low → test pair ≡ true) ps
-      each test [] = tt
-      each test (p ∷ ps) = ((λ less. absurd (omega (arith, less, zero_low))), each test ps)
 
   -- the map is the same, and up to the next bound there is nothing
   pub sweep_moves : (old now next : List (K × V)) (low high upper count : ℕ)
@@ -49,16 +44,12 @@ module _ {K V : Type 0} (IsTest : (K × V → Bool) → Type 0) (hash : K → �
     gone = s.gone;
     parts = IsPermutation-trans _ _ _ s.parts (IsPermutation-append_right s.gone _ _ moved);
     counted = s.counted;
-    early = each_implies (λ pair. hash pair.0 < high) (λ pair. hash pair.0 < upper) (λ pair less. omega (arith, less, up)) s.gone s.early;
+    early = each_implies _ (λ pair less. omega (arith, less, up)) s.early;
     refused = s.refused;
-    kept = λ test means.
-        let kept = all_permuted (λ pair. hash pair.0 < high → test pair ≡ true) now next moved (s.kept test means) in
-        each_both (λ pair. hash pair.0 < high → test pair ≡ true) (λ pair. high ≤ hash pair.0
-        → hash pair.0 < low → ⊥) (λ pair. hash pair.0 < low → test pair ≡ true)
-        (λ pair keeps never less. elim (cases_lt (hash pair.0) high) [
-          | inl early ↦ keeps early
-          | inr late ↦ absurd (never late less)
-        ]) next kept none;
+    kept = λ test means. each_both _ (λ pair keeps never less. elim (cases_lt (hash pair.0) high) [
+      | inl early ↦ keeps early
+      | inr late ↦ absurd (never late less)
+    ]) (all_permuted _ moved (s.kept test means)) none;
   }
 
   module _ (len index : ℕ) where
@@ -76,55 +67,44 @@ module _ {K V : Type 0} (IsTest : (K × V → Bool) → Type 0) (hash : K → �
         let outside : K × V → Bool = λ pair. not (is_inside len index (hash pair.0)) in
         let rest : List (K × V) = filter outside now in
         let split : IsPermutation (pairs_in lent) (taken_pairs ++ pairs_in left) = pairs_moved r.gone lent left r.parts in
-        let both : IsPermutation now (filter within now ++ rest) = IsPermutation-filter_both within
-        outside (λ pair. refl) now in
-        let lent_first : IsPermutation now (pairs_in lent ++ rest) = IsPermutation-trans _ _ _ both
+        let lent_first : IsPermutation now (pairs_in lent ++ rest) =
+        IsPermutation-trans _ _ _ (IsPermutation-filter_both within outside (λ pair. refl) now)
         (IsPermutation-append_left rest _ _ lent_is) in
         let parted : IsPermutation now (taken_pairs ++ (pairs_in left ++ rest)) = subst (IsPermutation now)
         (append_assoc taken_pairs (pairs_in left) rest)
         (IsPermutation-trans _ _ _ lent_first (IsPermutation-append_left rest _ _ split)) in
-        let after : IsPermutation now (taken_pairs ++ new) = IsPermutation-trans _ _ _ parted
-        (IsPermutation-append_right taken_pairs _ _ new_is) in
-        let whole : IsPermutation old ((s.gone ++ taken_pairs) ++ new) = subst (IsPermutation old)
-        (sym (append_assoc s.gone taken_pairs new)) (IsPermutation-trans _ _ _ s.parts (IsPermutation-append_right s.gone _ _ after)) in
-        let homes_lent : AllByRecursion (λ pair. within pair ≡ true) (pairs_in lent) = all_permuted
-        (λ pair. within pair ≡ true) _ _ lent_is (recursion_from_All (λ pair. within pair ≡ true) _ (filter_passes within now)) in
-        let homes_taken : AllByRecursion (λ pair. within pair ≡ true) taken_pairs = each_front
-        (λ pair. within pair ≡ true) taken_pairs (pairs_in left) (all_permuted (λ pair. within pair ≡ true) _ _ split homes_lent) in
-        let homes_rest : AllByRecursion (λ pair. outside pair ≡ true) rest = recursion_from_All
-        (λ pair. outside pair ≡ true) _ (filter_passes outside now) in
+        let after = IsPermutation-trans _ _ _ parted (IsPermutation-append_right taken_pairs _ _ new_is) in
+        let whole = subst (IsPermutation old) (sym (append_assoc s.gone taken_pairs new))
+        (IsPermutation-trans _ _ _ s.parts (IsPermutation-append_right s.gone _ _ after)) in
+        let homes_lent : AllByRecursion (λ pair. within pair ≡ true) (pairs_in lent) =
+        all_permuted _ lent_is (recursion_from_All (λ pair. within pair ≡ true) _ (filter_passes within now)) in
+        let homes_taken : AllByRecursion (λ pair. within pair ≡ true) taken_pairs =
+        each_front _ taken_pairs (pairs_in left) (all_permuted _ split homes_lent) in
+        let homes_rest = recursion_from_All (λ pair. outside pair ≡ true) _ (filter_passes outside now) in
         let taken_len = length-map r.gone first in
         let both_len = length-append s.gone taken_pairs in
         record {
           gone = s.gone ++ taken_pairs;
           parts = whole;
           counted = let a = s.counted in let b = r.counted in omega (arith, a, b, is, taken_len, both_len);
-          early = each_append (λ pair. hash pair.0 < bound_of len (index + 1)) s.gone taken_pairs s.early
-              (each_implies (λ pair. within pair ≡ true) (λ pair. hash pair.0 < bound_of len (index + 1))
-              (λ pair e. (bounds len index (hash pair.0) e).1) taken_pairs homes_taken);
-          refused = λ test means. each_append (λ pair. test pair ≡ false) s.gone taken_pairs
-              (s.refused test means) (each_map (λ pair. test pair ≡ false) first r.gone (r.refused test means));
+          early = each_append _ _ _ s.early (each_implies _ (λ pair e. (bounds _ _ (hash pair.0) e).1) homes_taken);
+          refused = λ test means.
+              each_append _ _ _ (s.refused test means) (each_map (λ pair. test pair ≡ false) first r.gone (r.refused test means));
           kept = λ test means.
-              let kept_left = each_implies (λ pair. test pair ≡ true)
-              (λ pair. hash pair.0 < bound_of len (index + 1) → test pair ≡ true) (λ pair e less. e) (pairs_in left) (r.kept test means) in
-              let kept_rest = each_both (λ pair. hash pair.0 < bound_of len index → test pair ≡ true) (λ pair. outside pair ≡ true)
-              (λ pair. hash pair.0 < bound_of len (index + 1) → test pair ≡ true)
-              (λ pair keeps out less. elim (cases_lt (hash pair.0) (bound_of len index)) [
+              let kept_left : AllByRecursion (λ pair. hash pair.0 < bound_of len (index + 1) → test pair ≡ true) (pairs_in left) =
+              each_implies _ (λ pair e less. e) (r.kept test means) in
+              all_permuted _ new_is (each_append _ _ _ kept_left
+              (each_both _ (λ pair keeps out less. elim (cases_lt (hash pair.0) (bound_of len index)) [
                 | inl early ↦ keeps early
-                | inr late ↦ absurd (true≢false (sym out ∙ not_from_true (within pair) (is_in len index (hash pair.0) late less)))
-              ]) rest (each_filter (λ pair. hash pair.0 < bound_of len index → test pair ≡ true)
-              outside now (s.kept test means)) homes_rest in
-              all_permuted (λ pair. hash pair.0 < bound_of len (index + 1) → test pair ≡ true) _ _
-              new_is (each_append (λ pair. hash pair.0 < bound_of len (index + 1) → test pair ≡ true)
-              (pairs_in left) rest kept_left kept_rest);
+                | inr late ↦ absurd (true≢false (sym out ∙ not_from_true (within pair) (is_in _ _ (hash pair.0) late less)))
+              ]) (each_filter _ outside _ (s.kept test means)) homes_rest));
         }
 
   -- a filter over what is gone and what is there
   filtered : (p : K × V → Bool) (old gone now : List (K × V)) → IsPermutation old (gone ++ now)
       → AllByRecursion (λ pair. p pair ≡ false) gone → AllByRecursion (λ pair. p pair ≡ true) now → IsPermutation (filter p old) now
   filtered p old gone now parts none all =
-      let e : filter p (gone ++ now) ≡ now = filter-append p gone now ∙ ap
-      (λ ps. ps ++ filter p now) (filter_none p gone none) ∙ filter_all p now all in
+      let e = filter-append p gone now ∙ (λ i. filter_none p gone none i ++ filter_all p now all i) in
       subst (IsPermutation (filter p old)) e (IsPermutation-filter p _ _ parts)
 
   -- past the last hash all is swept
@@ -132,21 +112,14 @@ module _ {K V : Type 0} (IsTest : (K × V → Bool) → Type 0) (hash : K → �
       → IsSweeping old now high high count → IsPermutation now next → HasNoneFrom hash high next
       → (test : K × V → Bool) → IsTest test → IsSwept test old next count
   sweep_ends old now next high count s moved none test means =
-      let kept = all_permuted (λ pair. hash pair.0 < high → test pair ≡ true) now next moved (s.kept test means) in
-      let all = each_both (λ pair. hash pair.0 < high → test pair ≡ true)
-      (λ pair. hash pair.0 < high) (λ pair. test pair ≡ true) (λ pair keeps less. keeps less) next
-      kept none in
+      let all : AllByRecursion (λ pair. test pair ≡ true) next =
+      each_both _ (λ pair keeps less. keeps less) (all_permuted _ moved (s.kept test means)) none in
       let refuses : K × V → Bool = λ pair. not (test pair) in
       let parts = IsPermutation-trans _ _ _ s.parts (IsPermutation-append_right s.gone _ _ moved) in
-      let gone_all = filter_all refuses s.gone (each_implies (λ pair. test pair ≡ false)
-      (λ pair. refuses pair ≡ true) (λ pair e. not_from_false (test pair) e) s.gone (s.refused test means)) in
-      let next_none = filter_none refuses next (each_implies (λ pair. test pair ≡ true)
-      (λ pair. refuses pair ≡ false) (λ pair e. not_from_true (test pair) e) next all) in
-      let out : filter refuses (s.gone ++ next) ≡ s.gone = filter-append refuses s.gone next ∙ ap
-      (λ ps. ps ++ filter refuses next) gone_all ∙ ap (λ ps. s.gone ++ ps) next_none ∙ append-nil
-      s.gone in
-      let same : IsPermutation (filter refuses old) s.gone = subst (IsPermutation (filter refuses old)) out
-      (IsPermutation-filter refuses _ _ parts) in
+      let gone_all = filter_all refuses s.gone (each_implies _ (λ pair e. not_from_false (test pair) e) (s.refused test means)) in
+      let next_none = filter_none refuses next (each_implies _ (λ pair e. not_from_true (test pair) e) all) in
+      let out = filter-append refuses s.gone next ∙ (λ i. gone_all i ++ next_none i) ∙ append-nil s.gone in
+      let same = subst (IsPermutation (filter refuses old)) out (IsPermutation-filter refuses _ _ parts) in
       record {
         kept = filtered test old s.gone next parts (s.refused test means) all;
         counted = s.counted ∙ ap (λ (n : ℕ). min n (2 ^ 64 - 1)) (length_permutation _ _ same);
@@ -157,15 +130,10 @@ module _ {K V : Type 0} (IsTest : (K × V → Bool) → Type 0) (hash : K → �
       → (test : K × V → Bool) → IsTest test → IsSweptBelow hash high test old next
   sweep_stops old now next high count s moved test means =
       let p : K × V → Bool = λ pair. test pair || nat_le high (hash pair.0) in
-      let kept = all_permuted (λ pair. hash pair.0 < high → test pair ≡ true) now next moved (s.kept test means) in
-      let all = each_implies (λ pair. hash pair.0 < high → test pair ≡ true) (λ pair. p pair ≡ true)
-      (λ pair keeps. elim (cases_lt (hash pair.0) high) [
+      let all : AllByRecursion (λ pair. p pair ≡ true) next = each_implies _ (λ pair keeps. elim (cases_lt (hash pair.0) high) [
         | inl early ↦ or_left (test pair) (nat_le high (hash pair.0)) (keeps early)
         | inr late ↦ or_right (test pair) (nat_le high (hash pair.0)) (le-leb high (hash pair.0) late)
-      ]) next kept in
-      let none = each_both (λ pair. test pair ≡ false) (λ pair. hash pair.0 < high) (λ pair. p pair ≡ false) (λ pair no less.
-      let late : nat_le high (hash pair.0) ≡ false = false_from_ne_true (nat_le high (hash pair.0))
-      (λ yes. absurd (omega (arith, less, leb-true high (hash pair.0) yes))) in
-      or_from (test pair) (nat_le high (hash pair.0)) no late) s.gone (s.refused test means) s.early in
-      let parts = IsPermutation-trans _ _ _ s.parts (IsPermutation-append_right s.gone _ _ moved) in
-      filtered p old s.gone next parts none all
+      ]) (all_permuted _ moved (s.kept test means)) in
+      let none : AllByRecursion (λ pair. p pair ≡ false) s.gone = each_both _ (λ pair no less.
+      or_from (test pair) (nat_le high (hash pair.0)) no (lt-leb high (hash pair.0) less)) (s.refused test means) s.early in
+      filtered p old s.gone next (IsPermutation-trans _ _ _ s.parts (IsPermutation-append_right s.gone _ _ moved)) none all

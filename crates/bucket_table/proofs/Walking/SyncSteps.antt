@@ -1,7 +1,7 @@
 -- A locked bucket that is left for the next one.
 use Rattle.bucket_table.proofs.Words.{ArraysView, AsksShrinking, Err, HasNoneFrom, IsLocked, IsPermutation-sym, Keeps, List, Ok, Place}
 use Rattle.bucket_table.proofs.Words.{Result, Side, TableView, [], ap, bound_of, bucket_on, buckets_on, inl, inr, length, null_place}
-use Rattle.bucket_table.proofs.Words.{pairs_ahead, pairs_in, pairs_of, refl, subst, sym, ℕ, ◌+◌, ◌<◌, ◌∙◌, ◌∷◌, ◌≡◌, ◌≢◌, ◌⊎◌}
+use Rattle.bucket_table.proofs.Words.{pairs_ahead, pairs_in, pairs_of, refl, subst, sym, ℕ, ◌+◌, ◌∙◌, ◌∷◌, ◌≡◌, ◌≢◌, ◌⊎◌}
 use Rattle.bucket_table.specs.Walking.Cursors.{Advances, LeavesTo, ShrinksThenPasses}
 use Rattle.bucket_table.specs.declared.arrays.Missing.{Missing}
 use Rattle.bucket_table.specs.declared.arrays.Missing.TheVariants.{Memory, Nothing}
@@ -64,9 +64,7 @@ module _ {K V H : Type 0} (kind : ℕ) (hash : H → K → ℕ) (side : Side) (i
         → HasNoneFrom (hash old.hasher) (bound_of (length (buckets_on old.arrays side)) (index + 1)) (pairs_of old.arrays)
     none_before nothing = elim (some_or_none (pairs_ahead (bucket_on old.arrays side index) from)) [
       | inl none ↦
-          let bound : ℕ = bound_of (length (buckets_on old.arrays side)) (index + 1) in
-          all_permuted (λ pair. hash old.hasher pair.0 < bound) (pairs_of new.arrays) (pairs_of old.arrays)
-          (IsPermutation-sym _ _ a.map.pairs) ((a.leaves none).none nothing)
+          all_permuted _ (IsPermutation-sym _ _ a.map.pairs) ((a.leaves none).none nothing)
       | inr some ↦ absurd (not_held some)
     ]
 

@@ -1,107 +1,53 @@
 -- A current bucket is lent, and comes back with some of its keys.
-use Rattle.bucket_table.proofs.Words.{All, All-from_recursion, AllByRecursion, AreSourcesKilled, ArraysView, AsksShrinking, Bool}
-use Rattle.bucket_table.proofs.Words.{BucketView, Current, Err, IsDistinct, IsDistinct-IsPermutation, IsEntryHome, IsEquivalence, IsHome}
-use Rattle.bucket_table.proofs.Words.{IsLocked, IsOneMap, IsPermutation, IsPermutation-append_left, IsPermutation-append_right}
-use Rattle.bucket_table.proofs.Words.{IsPermutation-map, IsPermutation-sym, IsPermutation-trans, Keeps, KeepsArrays, KeepsOpenTickets, List}
-use Rattle.bucket_table.proofs.Words.{Meets, Ok, TableView, WorksUnits, [], ap, append_assoc, arith, arrays_with, bucket_at, bucket_on}
-use Rattle.bucket_table.proofs.Words.{cases_Bool, cases_lt, entries_in, entries_of, false, has_home_in, inl, inr, length, length-set, map}
-use Rattle.bucket_table.proofs.Words.{map-entries_in, recursion_from_All, refl, subst, sym, true, ℕ, ◌%◌, ◌++◌, ◌+◌, ◌<◌, ◌∙◌, ◌∷◌, ◌≡◌}
-use Rattle.bucket_table.proofs.Words.{◌≤◌}
+use Rattle.bucket_table.proofs.Words.{AllByRecursion, AreSourcesKilled, ArraysView, AsksShrinking, Bool, BucketView, Current, Err}
+use Rattle.bucket_table.proofs.Words.{IsEntryHome, IsEquivalence, IsLocked, IsOneMap, Keeps, KeepsArrays, KeepsOpenTickets, Meets, Ok}
+use Rattle.bucket_table.proofs.Words.{TableView, WorksUnits, ap, arith, arrays_with, bucket_at, bucket_on, cases_Bool, cases_lt, entries_in}
+use Rattle.bucket_table.proofs.Words.{false, has_home_in, inl, inr, length, length-set, map-entries_in, recursion_from_All, refl, subst}
+use Rattle.bucket_table.proofs.Words.{sym, true, ℕ, ◌+◌, ◌<◌, ◌∙◌, ◌≡◌, ◌≤◌}
 use Rattle.bucket_table.specs.Rehash.Units.{WantsMemory}
 use Rattle.bucket_table.specs.Views.ArraysView.{IsSource}
 use Rattle.bucket_table.specs.Resize.Asking.{ResizesIf}
 use Rattle.bucket_table.specs.Walking.Cursors.{AreKilledFor}
 use Rattle.bucket_table.specs.Views.Settings.{KeepsSettings}
-use Rattle.bucket_table.specs.Walking.Walks.{BeginsAt, EndsWalk, IsKeptBy, KeepsBuckets, WalksBy, keys_in}
+use Rattle.bucket_table.specs.Walking.Walks.{BeginsAt, EndsWalk, IsKeptBy, KeepsBuckets, WalksBy}
 use Rattle.bucket_table.proofs.Walking.Bounds.{is_in}
-use Rattle.bucket_table.proofs.Walking.Each.{all_permuted, each_back, each_implies, each_map, each_unmap, map_append}
+use Rattle.bucket_table.proofs.Walking.Each.{each_implies, each_map}
 use Rattle.bucket_table.proofs.Walking.HomeSplit.{changed_there, splits, taken_there}
 use Rattle.bucket_table.proofs.Views.Keeping.{bag_both, bag_same}
-use Rattle.bucket_table.proofs.Map.MapKept.{keeps_pairs}
 use Rattle.bucket_table.proofs.Views.SettingsKept.{settings_both}
-use Rattle.bucket_table.proofs.Views.SideChanges.{locked_current, placed_change}
+use Rattle.bucket_table.proofs.Views.SideChanges.{changeable_locked, locked_current}
 use Rattle.bucket_table.proofs.Rehash.StayingKilled.{sources_still}
 use Rattle.bucket_table.proofs.Rehash.Wanting.{wanted_before}
-use Rattle.bucket_table.proofs.Walking.TableCursor.{distinct_behind}
+use Rattle.bucket_table.proofs.Walking.Leaving.{homes_kept, one_map_losing_on}
 use Rattle.bucket_table.proofs.Rehash.UnitRuns.{units_alone}
-use Rattle.bucket_table.proofs.Walking.WalkSteps.{IsVisitOf, WalksOn, begins, goes_on, walk_units, walk_visited, walk_waits}
+use Rattle.bucket_table.proofs.Walking.WalkSteps.{IsVisitOf, WalksOn, begins, each_waits, goes_on, walk_units, walk_waits}
+use Rattle.bucket_table.specs.Walking.Retains.{LosesKeys}
 
 module _ {K V : Type 0} where
-  abbrev pub key_of : (K × V) × ℕ → K × ℕ
-  key_of e = (e.0.0, e.1)
-
-  pub keys_are : (es : List ((K × V) × ℕ)) → map (λ (p : K × V). p.0)
-      (map (λ (e : (K × V) × ℕ). e.0) es) ≡ map (λ (k : K × ℕ). k.0) (map key_of es)
-  keys_are [] = refl
-  keys_are (e ∷ es) = ap (λ ks. e.0.0 ∷ ks) (keys_are es)
-
-  -- some of the keys in their home
-  pub homes_kept : (hash : K → ℕ) (n index : ℕ) (lent left : BucketView K V) (gone : List (K × ℕ))
-      → IsPermutation (keys_in lent) (gone ++ keys_in left) → All (IsEntryHome hash n index) (entries_in lent)
-      → All (IsEntryHome hash n index) (entries_in left)
-  homes_kept hash n index lent left gone keys own =
-      let Own : K × ℕ → Type 0 = λ k. IsHome n (hash k.0) index × (k.1 ≡ hash k.0 % 256) in
-      let of_keys = each_map Own key_of (entries_in lent)
-      (each_implies (IsEntryHome hash n index) (λ e. Own (key_of e)) (λ e h. (h.home, h.own_byte))
-      _ (recursion_from_All (IsEntryHome hash n index) _ own)) in
-      let of_left = each_unmap Own key_of (entries_in left) (each_back Own gone (keys_in left) (all_permuted Own _ _ keys of_keys)) in
-      All-from_recursion (IsEntryHome hash n index) (entries_in left) (each_implies (λ e. Own (key_of e)) (IsEntryHome hash n index)
-      (λ e h. record { home = h.0; own_byte = h.1 }) (entries_in left) of_left)
-
   module _ (eq : K → K → Bool) (laws : IsEquivalence eq) (hash : K → ℕ) (arrays : ArraysView K V)
       (index : ℕ) (left : BucketView K V)
       (one : IsOneMap eq hash arrays) (locked : IsLocked arrays Current index) (kept : IsKeptBy (bucket_on arrays Current index) left) where
-    abbrev pub after : ArraysView K V
-    after = arrays_with arrays Current index left
-
-    homes : All (IsEntryHome hash (length arrays.current) index) (entries_in left)
-    homes = homes_kept hash (length arrays.current) index (bucket_on arrays Current index) left kept.gone kept.keys
-        (one.placed.homes.current_home index locked.within)
-
-    keys_left : IsPermutation (map key_of (entries_of arrays)) (kept.gone ++ map key_of (entries_of after))
-    keys_left =
-        let s = splits hash arrays index one.placed locked.within (locked.killed refl) in
-        let first : IsPermutation (map key_of (entries_of arrays)) (keys_in (bucket_on arrays Current index) ++ map key_of s.rest) =
-        subst (IsPermutation (map key_of (entries_of arrays))) (map_append key_of (entries_in (bucket_on arrays Current index)) s.rest)
-        (IsPermutation-map key_of _ _ s.before) in
-        let second : IsPermutation (map key_of (entries_of arrays)) (kept.gone ++ (keys_in left ++ map key_of s.rest)) =
-        subst (IsPermutation (map key_of (entries_of arrays))) (append_assoc kept.gone (keys_in left) (map key_of s.rest))
-        (IsPermutation-trans _ _ _ first (IsPermutation-append_left (map key_of s.rest) _ _ kept.keys)) in
-        let last : IsPermutation (keys_in left ++ map key_of s.rest) (map key_of (entries_of after)) =
-        subst (λ ks. IsPermutation ks (map key_of (entries_of after)))
-        (map_append key_of (entries_in left) s.rest) (IsPermutation-map key_of _ _ (IsPermutation-sym _ _ (s.after left))) in
-        IsPermutation-trans _ _ _ second (IsPermutation-append_right kept.gone _ _ last)
+    lost : LosesKeys (bucket_on arrays Current index) left
+    lost = record { gone = kept.gone; keys = kept.keys; alive = kept.alive ∙ sym (one.placed.homes.alive index locked.within) }
 
     -- the map stays one
-    pub one_map_visited : IsOneMap eq hash after
+    pub one_map_visited : IsOneMap eq hash (arrays_with arrays Current index left)
     one_map_visited =
-        let own : K × ℕ → K = λ k. k.0 in
-        let before : IsDistinct eq (map own (map key_of (entries_of arrays))) = subst (IsDistinct eq) (keys_are (entries_of arrays))
-        one.distinct in
-        let parted : IsPermutation (map own (map key_of (entries_of arrays)))
-        (map own kept.gone ++ map own (map key_of (entries_of after))) =
-        subst (IsPermutation (map own (map key_of (entries_of arrays)))) (map_append own kept.gone (map key_of (entries_of after)))
-        (IsPermutation-map own _ _ keys_left) in
-        record {
-          distinct = subst (IsDistinct eq) (sym (keys_are (entries_of after)))
-              (distinct_behind eq (map own kept.gone) (map own (map key_of (entries_of after)))
-              (IsDistinct-IsPermutation eq laws.symm _ _ parted before));
-          placed = placed_change hash arrays Current index left one.placed locked homes
-              (kept.alive ∙ sym (one.placed.homes.alive index locked.within));
-        }
+        one_map_losing_on eq laws hash arrays Current index left one (changeable_locked arrays Current index locked) lost
 
     -- and the bucket was lent with all of its pairs
-    pub visited : IsVisitOf hash arrays index (bucket_on arrays Current index) left after
+    pub visited : IsVisitOf hash arrays index (bucket_on arrays Current index) left (arrays_with arrays Current index left)
     visited =
         let n : ℕ = length arrays.current in
         let s = splits hash arrays index one.placed locked.within (locked.killed refl) in
         let pair_of : (K × V) × ℕ → K × V = λ e. e.0 in
+        let homes = homes_kept hash n index (bucket_on arrays Current index) left lost
+        (one.placed.homes.current_home index locked.within) in
         record {
           lent_is = taken_there hash arrays index s;
           left_homes = subst (AllByRecursion (λ pair. has_home_in hash n index (index + 1) pair ≡ true)) (map-entries_in left)
               (each_map (λ pair. has_home_in hash n index (index + 1) pair ≡ true) pair_of (entries_in left)
-              (each_implies (IsEntryHome hash n index) (λ e. has_home_in hash n index (index + 1)
-              e.0 ≡ true) (λ e h. is_in n index (hash e.0.0) h.home.own.0 h.home.own.1) (entries_in left)
+              (each_implies _ (λ e h. is_in _ _ (hash e.0.0) h.home.own.0 h.home.own.1)
               (recursion_from_All (IsEntryHome hash n index) _ homes)));
           pairs = changed_there hash arrays index s left;
           len = length-set arrays.current index left;
@@ -153,7 +99,7 @@ module _ {S K V : Type 0} (step : S → BucketView K V → Bool → Bool → Buc
       let len = visit.len in
       let before = killed_wait table ready from index w.killed kept unit in
       let after : WalkStands first next old from (index + 1) last more done = record {
-        walks = goes_on step hash first now next old table ready from index flag last more left w.walks kept unit waits call visit;
+        walks = goes_on step hash left w.walks kept unit waits call visit;
         killed = λ j low high. elim (cases_lt j index) [
           | inl less ↦ subst (λ (n : ℕ). (i : ℕ) → i < length ready.linked → Meets (length ready.linked) i n j
               → (bucket_at ready.linked i).killed ≡ true) (sym len) (before j low less)
@@ -198,7 +144,7 @@ module _ {S K V : Type 0} (step : S → BucketView K V → Bool → Bool → Buc
       → WantsMemory (IsSource ready index) table ready → more ≡ true
       → WalksBy {A = A} step hash expected start first old (Err e) now ready
   walk_refused e expected start first now old table ready from index flag more at w kept unit waits wants going =
-      let part = walk_waits hash old table ready from w.walks.visits w.walks.part (keeps_pairs table ready kept.keeps) kept.current_len in
+      let part = walk_waits hash w.walks.part kept in
       record {
         from = from;
         visits = w.walks.visits;
@@ -209,8 +155,8 @@ module _ {S K V : Type 0} (step : S → BucketView K V → Bool → Bool → Buc
         walk = part.walk;
         len = part.len;
         sources = subst (λ (n : ℕ). AreKilledFor ready from n) w.walks.reached (killed_wait table ready from index w.killed kept unit);
-        units = walk_units step hash first now old table ready from index flag more w.walks unit;
-        visited = walk_visited step hash first now old table ready from index flag more w.walks kept waits;
+        units = walk_units step hash w.walks unit;
+        visited = each_waits old table ready from w.walks.visits w.walks.visited (kept, waits);
         within = λ some. let reached = w.walks.reached in let fits = w.within
             (omega (arith, reached, some)) in omega (arith, reached, fits);
         wanted = subst (λ (n : ℕ). WantsMemory (IsSource ready n) old ready) w.walks.reached

@@ -1,17 +1,15 @@
 -- What a script's walk counts, and what its clearing leaves.
 use Rattle.bucket_table.proofs.Words.{ArraysView, Bool, BucketView, Err, IsLength, IsPermutation, IsPermutation-refl, List, MarksBy, Ok}
-use Rattle.bucket_table.proofs.Words.{TableView, [], ap, arith, bound_of, cases_lt, counted, counted_to, false, false_from_ne_true, filter}
-use Rattle.bucket_table.proofs.Words.{filter_agree, has_home_in, inl, inr, length, length_permutation, lt-ltb, ltb-true, map, marks_in, min}
-use Rattle.bucket_table.proofs.Words.{nat_le, nat_lt, not, pairs_in, pairs_of, reading, refl, set, subst, sym, true, true≢false, ℕ, ◌++◌}
-use Rattle.bucket_table.proofs.Words.{◌+◌, ◌-◌, ◌<◌, ◌^◌, ◌∙◌, ◌∷◌, ◌≡◌, ◌≤◌, ◌⊎◌}
+use Rattle.bucket_table.proofs.Words.{Result, TableView, [], ap, append-nil, arith, bound_of, cases_lt, counted, counted_to, false}
+use Rattle.bucket_table.proofs.Words.{false_from_ne_true, filter, filter_agree, has_home_in, inl, inr, length, length_permutation, lt-ltb}
+use Rattle.bucket_table.proofs.Words.{ltb-true, map, marks_in, min, nat_le, nat_lt, nil_from_length, not, pairs_in, pairs_of, reading, refl}
+use Rattle.bucket_table.proofs.Words.{set, subst, sym, true, true≢false, ℕ, ◌++◌, ◌+◌, ◌-◌, ◌<◌, ◌^◌, ◌∙◌, ◌∷◌, ◌≡◌, ◌≤◌, ◌⊎◌}
 use Rattle.std.proofs.Common.{◌||◌}
-use Rattle.std.proofs.lemmas.List.{append-nil}
 use Rattle.bucket_table.specs.Map.MapState.{Becomes, state_of}
 use Rattle.bucket_table.specs.Walking.Retains.{IsLeftOf, Retains}
 use Rattle.bucket_table.specs.Scripts.Tallying.{Empties, Tallies, sum_to}
 use Rattle.bucket_table.specs.Walking.Visits.{AreCalls, HasStopped, Visited}
 use Rattle.bucket_table.specs.Walking.Walks.{EndsWalk, IsWalk, KeepsBuckets, WalksBy, keys_in, pairs_left}
-use Rattle.bucket_table.proofs.Walking.Each.{nothing}
 use Rattle.bucket_table.proofs.Views.Killed.{no_entries}
 use Rattle.bucket_table.proofs.Walking.LentPairs.{all_from, counted_from, is_from, lent_len, none_past, outside_is_from}
 use Rattle.bucket_table.proofs.Map.MapKept.{others_than_pairs, pairs_kept}
@@ -28,95 +26,94 @@ module _ {K V : Type 0} where
   ended_pairs false ended new ends = subst (λ (a : ArraysView K V). IsPermutation (pairs_of ended) (pairs_of a)) (sym ends)
       (IsPermutation-refl (pairs_of ended))
 
-module _ {S K V : Type 0} (step : S → BucketView K V → Bool → Bool → BucketView K V → Bool → S
-    → Type 0) (count : S → ℕ) (goes : (s t : S) (lent left : BucketView K V) (flag more last : Bool)
-    → step s lent flag more left last t → more ≡ true) (adds : (s t : S) (lent left : BucketView K V) (flag more last : Bool)
-    → step s lent flag more left last t → count t ≡ sum_to (count s) (length (pairs_in lent))) where
-  never_stops : (s t : S) (flag last : Bool) (vs : List (Visited (BucketView K V))) → AreCalls step s flag vs t last → HasStopped vs → ⊥
-  never_stops s t flag last [] calls stopped = stopped
-  never_stops s t flag last (v ∷ vs) calls (inl h) = true≢false (sym (goes s calls.0 v.lent v.left flag v.more calls.1 calls.2) ∙ h)
-  never_stops s t flag last (v ∷ vs) calls (inr h) = never_stops calls.0 t calls.1 last vs calls.4 h
+module _ {S K V : Type 0} (step : S → BucketView K V → Bool → Bool → BucketView K V → Bool → S → Type 0) (hash : K → ℕ)
+    (old : ArraysView K V)
+  where
+    -- a walk from the first bucket on
+    from_first : {A E : Type 0} {r : Result A E} {first now : S} {new : ArraysView K V} (w : WalksBy step hash 0 0 first old r now new)
+        → IsWalk hash old 0 w.visits w.ended
+    from_first w = subst (λ (from : ℕ). IsWalk hash old from w.visits w.ended) (w.begins.as_given refl) w.walk
 
-  counts : (s t : S) (flag last : Bool) (vs : List (Visited (BucketView K V))) → count s ≤ 2 ^ 64 - 1 → AreCalls step s flag vs t last
-      → count t ≡ min (count s + lent_len vs) (2 ^ 64 - 1)
-  counts s t flag last [] small calls = let same = ap count calls.0 in omega (arith, same, small)
-  counts s t flag last (v ∷ vs) small calls =
-      let first : count calls.0 ≡ min (count s + length (pairs_in v.lent)) (2 ^ 64 - 1) =
-      adds s calls.0 v.lent v.left flag v.more calls.1 calls.2 in
-      let rest = counts calls.0 t calls.1 last vs (omega (arith, first)) calls.4 in
-      omega (arith, first, rest)
+    module _ (empties : (s t : S) (lent left : BucketView K V) (flag more last : Bool) → step s lent flag more left last t
+        → pairs_in left ≡ [])
+      where
+        none_left : (s t : S) (flag last : Bool) (vs : List (Visited (BucketView K V))) → AreCalls step s flag vs t last → pairs_left vs ≡ []
+        none_left s t flag last [] calls = refl
+        none_left s t flag last (v ∷ vs) calls =
+            ap (λ (ps : List (K × V)). ps ++ pairs_left vs) (empties _ _ _ _ _ _ _ calls.2) ∙ none_left calls.0 t calls.1 last vs calls.4
 
-  module _ (hash : K → ℕ) (old : ArraysView K V) (empty : length old.current ≡ 0
-      → pairs_of old ≡ []) (long : 0 < length old.current → IsLength (length old.current)) (fits : (k : K) → hash k < 2 ^ 64) where
-    reached : (s t : S) (flag last : Bool) (vs : List (Visited (BucketView K V))) → AreCalls step s flag vs t last → IsWhole old 0 vs
-        → length old.current ≤ length vs
-    reached s t flag last vs calls (inl all) = omega (arith, all)
-    reached s t flag last vs calls (inr stopped) = absurd (never_stops s t flag last vs calls stopped)
+        -- the pairs of buckets that weren't visited are left
+        beyond : {A E : Type 0} {r : Result A E} {first now : S} {new : ArraysView K V} (w : WalksBy step hash 0 0 first old r now new)
+            → IsPermutation (filter (is_from hash (length old.current) (length w.visits)) (pairs_of old)) (pairs_of w.ended)
+        beyond w =
+            let n : ℕ = length old.current in
+            let m : ℕ = length w.visits in
+            let away : K × V → Bool = λ p. not (has_home_in hash n 0 (0 + m) p) in
+            let e : pairs_left w.visits ++ filter away (pairs_of old) ≡ filter (is_from hash n m) (pairs_of old) =
+            ap (λ (ps : List (K × V)). ps ++ filter away (pairs_of old)) (none_left _ _ _ _ w.visits w.calls)
+            ∙ filter_agree away (is_from hash n m) (outside_is_from hash n m) (pairs_of old) in
+            subst (λ (ps : List (K × V)). IsPermutation ps (pairs_of w.ended)) e (from_first w).pairs
 
-    -- a whole walk counts all pairs
-    pub all_counted : {A E : Type 0} (a : A) (first now : S) (new : ArraysView K V) → count first ≡ 0
-        → WalksBy {E = E} step hash 0 0 first old (Ok a) now new → count now ≡ counted_to (pairs_of old)
-    all_counted a first now new fresh w =
-        let n : ℕ = length old.current in
-        let m : ℕ = length w.visits in
-        let at : w.from ≡ 0 = w.begins.as_given refl in
-        let walk : IsWalk hash old 0 w.visits w.ended = subst (λ (f : ℕ). IsWalk hash old f w.visits w.ended) at w.walk in
-        let whole : IsWhole old 0 w.visits = subst (λ (f : ℕ). IsWhole old f w.visits) at w.whole in
-        let far = reached first now false w.flag w.visits w.calls whole in
-        let told = counts first now false w.flag w.visits (omega (arith, fresh)) w.calls in
-        let lent = counted_from hash n 0 (pairs_of old) w.visits walk.lent in
-        let all = ap length (all_from hash n (pairs_of old)) in
-        let m_is : 0 + m ≡ m = omega arith in
-        let past = ap (λ (k : ℕ). length (filter (is_from hash n k) (pairs_of old))) m_is
-        ∙ ap length (none_past hash n m (pairs_of old) empty long fits far) in
-        omega (arith, told, fresh, lent, all, past)
-
-module _ {S K V : Type 0} (step : S → BucketView K V → Bool → Bool → BucketView K V → Bool → S
-    → Type 0) (empties : (s t : S) (lent left : BucketView K V) (flag more last : Bool) → step s lent flag more left last t
-    → pairs_in left ≡ []) where
-  none_left : (s t : S) (flag last : Bool) (vs : List (Visited (BucketView K V))) → AreCalls step s flag vs t last → pairs_left vs ≡ []
-  none_left s t flag last [] calls = refl
-  none_left s t flag last (v ∷ vs) calls = ap (λ (ps : List (K × V)). ps ++ pairs_left vs) (empties s calls.0 v.lent v.left flag v.more
-      calls.1 calls.2) ∙ none_left calls.0 t calls.1 last vs calls.4
-
-  module _ (hash : K → ℕ) (old : ArraysView K V) where
-    -- the pairs of buckets that weren't visited are left
-    beyond : (s t : S) (flag last : Bool) (vs : List (Visited (BucketView K V))) (ended : ArraysView K V) → AreCalls step s flag vs t last
-        → IsWalk hash old 0 vs ended → IsPermutation (filter (is_from hash (length old.current) (length vs))
-        (pairs_of old)) (pairs_of ended)
-    beyond s t flag last vs ended calls walk =
-        let n : ℕ = length old.current in
-        let m : ℕ = length vs in
-        let away : K × V → Bool = λ p. not (has_home_in hash n 0 (0 + m) p) in
-        let e : pairs_left vs ++ filter away (pairs_of old) ≡ filter (is_from hash n m) (pairs_of old) =
-        ap (λ (ps : List (K × V)). ps ++ filter away (pairs_of old)) (none_left s t flag last vs calls)
-        ∙ filter_agree away (is_from hash n m) (outside_is_from hash n m) (pairs_of old) in
-        subst (λ (ps : List (K × V)). IsPermutation ps (pairs_of ended)) e walk.pairs
-
-    pub left_from : {A E : Type 0} (e : E) (first now : S) (new : ArraysView K V) → WalksBy {A = A} step hash 0 0 first old (Err e) now new
-        → (bound : ℕ) × IsPermutation (filter (λ pair. nat_le bound (hash pair.0)) (pairs_of old)) (pairs_of new)
-    left_from e first now new w =
-        let at : w.from ≡ 0 = w.begins.as_given refl in
-        let walk : IsWalk hash old 0 w.visits w.ended = subst (λ (f : ℕ). IsWalk hash old f w.visits w.ended) at w.walk in
-        let left = beyond first now false w.flag w.visits w.ended w.calls walk in (
+        left_from : {A E : Type 0} {e : E} {first now : S} {new : ArraysView K V} → WalksBy {A = A} step hash 0 0 first old (Err e) now new
+            → (bound : ℕ) × IsPermutation (filter (λ pair. nat_le bound (hash pair.0)) (pairs_of old)) (pairs_of new)
+        left_from w = (
           bound_of (length old.current) (length w.visits),
-          subst (λ (a : ArraysView K V). IsPermutation (filter (is_from hash (length old.current) (length w.visits))
-              (pairs_of old)) (pairs_of a)) (sym w.ends) left,
+          subst (λ (a : ArraysView K V). IsPermutation (filter (is_from hash (length old.current) (length w.visits)) (pairs_of old))
+              (pairs_of a)) (sym w.ends) (beyond w),
         )
 
-    pub all_gone : {A E : Type 0} (a : A) (first now : S) (new : ArraysView K V) → (length old.current ≡ 0 → pairs_of old ≡ [])
-        → (0 < length old.current → IsLength (length old.current)) → ((k : K) → hash k < 2 ^ 64)
-        → ((vs : List (Visited (BucketView K V))) (flag : Bool) → AreCalls step first false vs now flag → IsWhole old 0 vs
-        → length old.current ≤ length vs) → WalksBy {E = E} step hash 0 0 first old (Ok a) now new → pairs_of new ≡ []
-    all_gone a first now new empty long fits far w =
-        let n : ℕ = length old.current in
-        let at : w.from ≡ 0 = w.begins.as_given refl in
-        let walk : IsWalk hash old 0 w.visits w.ended = subst (λ (f : ℕ). IsWalk hash old f w.visits w.ended) at w.walk in
-        let whole : IsWhole old 0 w.visits = subst (λ (f : ℕ). IsWhole old f w.visits) at w.whole in
-        let past = ap length (none_past hash n (length w.visits) (pairs_of old) empty long fits (far w.visits w.flag w.calls whole)) in
-        let ended = length_permutation _ _ (beyond first now false w.flag w.visits w.ended w.calls walk) in
-        let after = length_permutation _ _ (ended_pairs w.flag w.ended new w.ends) in
-        nothing (pairs_of new) (after ∙ ended ∙ past)
+    module _ (goes : (s t : S) (lent left : BucketView K V) (flag more last : Bool) → step s lent flag more left last t → more ≡ true)
+        (empty : length old.current ≡ 0 → pairs_of old ≡ []) (long : 0 < length old.current → IsLength (length old.current))
+        (fits : (k : K) → hash k < 2 ^ 64)
+      where
+        never_stops : (s t : S) (flag last : Bool) (vs : List (Visited (BucketView K V))) → AreCalls step s flag vs t last → HasStopped vs → ⊥
+        never_stops s t flag last [] calls stopped = stopped
+        never_stops s t flag last (v ∷ vs) calls (inl h) = true≢false (sym (goes _ _ _ _ _ _ _ calls.2) ∙ h)
+        never_stops s t flag last (v ∷ vs) calls (inr h) = never_stops calls.0 t calls.1 last vs calls.4 h
+
+        reached : (s t : S) (flag last : Bool) (vs : List (Visited (BucketView K V))) → AreCalls step s flag vs t last → IsWhole old 0 vs
+            → length old.current ≤ length vs
+        reached s t flag last vs calls (inl all) = omega (arith, all)
+        reached s t flag last vs calls (inr stopped) = absurd (never_stops s t flag last vs calls stopped)
+
+        -- no pair is past its end
+        none_beyond : {A E : Type 0} {a : A} {first now : S} {new : ArraysView K V} (w : WalksBy {E = E} step hash 0 0 first old (Ok a) now new)
+            → filter (is_from hash (length old.current) (length w.visits)) (pairs_of old) ≡ []
+        none_beyond w =
+            none_past hash (length old.current) (length w.visits) (pairs_of old) empty long fits
+            (reached _ _ _ _ w.visits w.calls (subst (λ (from : ℕ). IsWhole old from w.visits) (w.begins.as_given refl) w.whole))
+
+        module _ (count : S → ℕ) (adds : (s t : S) (lent left : BucketView K V) (flag more last : Bool)
+            → step s lent flag more left last t → count t ≡ sum_to (count s) (length (pairs_in lent)))
+          where
+            counts : (s t : S) (flag last : Bool) (vs : List (Visited (BucketView K V))) → count s ≤ 2 ^ 64 - 1 → AreCalls step s flag vs t last
+                → count t ≡ min (count s + lent_len vs) (2 ^ 64 - 1)
+            counts s t flag last [] small calls = let same = ap count calls.0 in omega (arith, same, small)
+            counts s t flag last (v ∷ vs) small calls =
+                let first : count calls.0 ≡ min (count s + length (pairs_in v.lent)) (2 ^ 64 - 1) = adds _ _ _ _ _ _ _ calls.2 in
+                let rest = counts calls.0 t calls.1 last vs (omega (arith, first)) calls.4 in
+                omega (arith, first, rest)
+
+            -- a whole walk counts all pairs
+            all_counted : {A E : Type 0} {a : A} {first now : S} {new : ArraysView K V} → count first ≡ 0
+                → WalksBy {E = E} step hash 0 0 first old (Ok a) now new → count now ≡ counted_to (pairs_of old)
+            all_counted fresh w =
+                let n : ℕ = length old.current in
+                let told = counts _ _ _ _ w.visits (omega (arith, fresh)) w.calls in
+                let lent = counted_from hash n 0 (pairs_of old) w.visits (from_first w).lent in
+                let all = ap length (all_from hash n (pairs_of old)) in
+                let m_is : 0 + length w.visits ≡ length w.visits = omega arith in
+                let past = ap (λ (k : ℕ). length (filter (is_from hash n k) (pairs_of old))) m_is ∙ ap length (none_beyond w) in
+                omega (arith, told, fresh, lent, all, past)
+
+        all_gone : ((s t : S) (lent left : BucketView K V) (flag more last : Bool) → step s lent flag more left last t → pairs_in left ≡ [])
+            → {A E : Type 0} {a : A} {first now : S} {new : ArraysView K V} → WalksBy {E = E} step hash 0 0 first old (Ok a) now new
+            → pairs_of new ≡ []
+        all_gone empties {new = new} w =
+            let past = ap length (none_beyond w) in
+            let ended = length_permutation _ _ (beyond empties w) in
+            let after = length_permutation _ _ (ended_pairs w.flag w.ended new w.ends) in
+            nil_from_length (pairs_of new) (after ∙ ended ∙ past)
 
 pub none_counted : {A : Type 0} (xs : List A) → xs ≡ [] → 0 ≡ counted_to xs
 none_counted {A} xs none = let e = ap (λ (ys : List A). length ys) none in omega (arith, e)
@@ -168,9 +165,8 @@ module _ {S K V : Type 0} (buckets pairs : S → ℕ) where
       → {A E : Type 0} (a : A) (first now : S) (new : ArraysView K V) → pairs first ≡ 0
       → WalksBy {E = E} tallying hash 0 0 first old (Ok a) now new → pairs now ≡ counted_to (pairs_of old)
   tallied hash old empty long fits a first now new fresh w =
-      all_counted tallying pairs (λ s t lent left flag more last call. call.0.goes_on)
-      (λ s t lent left flag more last call. call.0.pairs_are)
-      hash old empty long fits a first now new fresh w
+      all_counted tallying hash old (λ s t lent left flag more last call. call.0.goes_on) empty long fits pairs
+      (λ s t lent left flag more last call. call.0.pairs_are) fresh w
 
 module _ {S K V : Type 0} (kind : ℕ) (epoch count : S → ℕ) where
   abbrev pub emptying : S → BucketView K V → Bool → Bool → BucketView K V → Bool → S → Type 0
@@ -189,25 +185,23 @@ module _ {S K V : Type 0} (kind : ℕ) (epoch count : S → ℕ) where
         alive = call.alive ∙ alive;
       }
 
+  goes_emptied : (s t : S) (lent left : BucketView K V) (flag more last : Bool) → emptying s lent flag more left last t → more ≡ true
+  goes_emptied s t lent left flag more last call = call.goes_on
+
   pub emptied : (hash : K → ℕ) (old : ArraysView K V) → (length old.current ≡ 0 → pairs_of old ≡ [])
       → (0 < length old.current → IsLength (length old.current)) → ((k : K) → hash k < 2 ^ 64)
       → {A E : Type 0} (a : A) (first now : S) (new : ArraysView K V) → count first ≡ 0
       → WalksBy {E = E} emptying hash 0 0 first old (Ok a) now new → (pairs_of new ≡ []) × (count now ≡ counted_to (pairs_of old))
   emptied hash old empty long fits a first now new fresh w = (
-    all_gone emptying (λ s t lent left flag more last call. call.none_left) hash old a first now new empty long fits
-        (λ vs flag calls whole. reached emptying count (λ s t lent left flag more last call.
-        call.goes_on) (λ s t lent left flag more last call. call.count_is)
-        hash old empty long fits first now false flag vs calls whole)
-        w,
-    all_counted emptying count (λ s t lent left flag more last call. call.goes_on) (λ s t lent left flag more last call. call.count_is)
-        hash old empty long fits a first now new fresh w,
+    all_gone emptying hash old goes_emptied empty long fits (λ s t lent left flag more last call. call.none_left) w,
+    all_counted emptying hash old goes_emptied empty long fits count (λ s t lent left flag more last call. call.count_is) fresh w,
   )
 
   pub emptied_below : (hash : K → ℕ) (old : ArraysView K V) {A E : Type 0} (e : E) (first now : S) (new : ArraysView K V)
       → WalksBy {A = A} emptying hash 0 0 first old (Err e) now new
       → (bound : ℕ) × IsPermutation (filter (λ pair. nat_le bound (hash pair.0)) (pairs_of old)) (pairs_of new)
-  emptied_below hash old e first now new w = left_from emptying (λ s t lent left flag more last call. call.none_left)
-      hash old e first now new w
+  emptied_below hash old e first now new w =
+      left_from emptying hash old (λ s t lent left flag more last call. call.none_left) w
 
 module _ {K V H : Type 0} (kind : ℕ) (t s : TableView K V H) (hasher : s.hasher ≡ t.hasher) where
   -- the map of a table whose pairs went, or went in part

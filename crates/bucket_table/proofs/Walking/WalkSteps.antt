@@ -1,16 +1,15 @@
 -- A walk goes on by one bucket.
 use Rattle.bucket_table.proofs.Words.{AllByRecursion, ArraysView, Bool, BucketView, Current, IsInRange, IsPermutation}
-use Rattle.bucket_table.proofs.Words.{IsPermutation-append_right, IsPermutation-refl, IsPermutation-trans, KeepsArrays, List}
-use Rattle.bucket_table.proofs.Words.{WorksUnits, [], and_from, ap, append_assoc, arith, arrays_with, bucket_on, cases_Bool, cases_lt}
-use Rattle.bucket_table.proofs.Words.{false, false_from_ne_true, filter, filter-append, filter_agree, has_home_in, inl, inr}
-use Rattle.bucket_table.proofs.Words.{interval_width, le-leb, leb-true, length, lt-ltb, ltb-true, mul-le-mul_right, nat_le, nat_lt}
-use Rattle.bucket_table.proofs.Words.{not, not_from_false, not_from_true, pairs_in, pairs_of, refl, subst, sym, true, true≢false, ℕ}
-use Rattle.bucket_table.proofs.Words.{◌&&◌, ◌*◌, ◌++◌, ◌+◌, ◌<◌, ◌∙◌, ◌∷◌, ◌≡◌, ◌≤◌}
-use Rattle.std.proofs.lemmas.Bool.{and_left, and_parts, and_right}
-use Rattle.std.proofs.lemmas.List.{append-nil, length_push}
+use Rattle.bucket_table.proofs.Words.{IsPermutation-append_right, IsPermutation-refl, IsPermutation-trans, KeepsArrays, List, WorksUnits}
+use Rattle.bucket_table.proofs.Words.{[], and_from, ap, append-nil, append_assoc, arith, arrays_with, bucket_on, cases_Bool, cases_lt}
+use Rattle.bucket_table.proofs.Words.{false, false_from_ne_true, filter, filter-append, filter_agree, has_home_in, inl, inr, interval_width}
+use Rattle.bucket_table.proofs.Words.{length, mul-le-mul_right, not, not_from_false, not_from_true, pairs_in, pairs_of, refl, subst, sym}
+use Rattle.bucket_table.proofs.Words.{true, true≢false, ℕ, ◌&&◌, ◌*◌, ◌++◌, ◌+◌, ◌∙◌, ◌∷◌, ◌≡◌, ◌≤◌}
+use Rattle.std.proofs.lemmas.Bool.{and_left, and_right}
+use Rattle.std.proofs.lemmas.List.{length_push}
 use Rattle.bucket_table.specs.Walking.Visits.{AreCalls, HasStopped, Visited}
 use Rattle.bucket_table.specs.Walking.Walks.{AreLent, IsWalk, MovesOn, VisitsEach, pairs_left}
-use Rattle.bucket_table.proofs.Walking.Bounds.{next_multiple}
+use Rattle.bucket_table.proofs.Walking.Bounds.{bounds, is_in, is_out, next_multiple}
 use Rattle.bucket_table.proofs.Walking.Each.{each, each_append, each_implies, to_front}
 use Rattle.bucket_table.proofs.Walking.Filters.{IsPermutation-filter, filter_all, filter_filter, filter_none}
 use Rattle.bucket_table.proofs.Map.MapKept.{keeps_pairs}
@@ -27,17 +26,6 @@ pub record IsVisitOf {K V : Type 0} (hash : K → ℕ) (old : ArraysView K V) (i
       (pairs_in left ++ filter (λ pair. not (has_home_in hash (length old.current) index (index + 1) pair)) (pairs_of old))
       (pairs_of new)
   pub len : length new.current ≡ length old.current
-
--- tests on hashes
-module _ (low high h : ℕ) where
-  pub is_in : low ≤ h → h < high → (nat_le low h && nat_lt h high) ≡ true
-  is_in a b = and_from (nat_le low h) (nat_lt h high) (le-leb low h a) (lt-ltb h high b)
-
-  bounds : (nat_le low h && nat_lt h high) ≡ true → (low ≤ h) × (h < high)
-  bounds e = let p = and_parts (nat_le low h) (nat_lt h high) e in (leb-true low h p.0, ltb-true h high p.1)
-
-  pub is_out : ((low ≤ h) → (h < high) → ⊥) → (nat_le low h && nat_lt h high) ≡ false
-  is_out never = false_from_ne_true (nat_le low h && nat_lt h high) (λ e. let b = bounds e in never b.0 b.1)
 
 module _ {S B : Type 0} (step : S → B → Bool → Bool → B → Bool → S → Type 0) where
   -- one call more, where none before it stopped the walk
@@ -145,44 +133,33 @@ module _ {K V : Type 0} (hash : K → ℕ) (len : ℕ) where
       ]
     ]
 
-    module _ (old before after done lent left : List (K × V))
-        (homes : AllByRecursion (λ p. behind p ≡ true) done) (so_far : IsPermutation (done ++ filter ahead old) before) where
-      pub lent_now : IsPermutation (filter inside before) lent → IsPermutation (filter inside old) lent
+    not_inside : (p : K × V) → behind p ≡ true → inside p ≡ false
+    not_inside p e = false_from_ne_true (inside p) (λ yes. true≢false (sym e ∙ later start index p yes))
+
+    module _ (old before done : List (K × V)) (homes : AllByRecursion (λ p. behind p ≡ true) done)
+        (so_far : IsPermutation (done ++ filter ahead old) before) where
+      pub lent_now : {lent : List (K × V)} → IsPermutation (filter inside before) lent → IsPermutation (filter inside old) lent
       lent_now is =
-          let none = filter_none inside done (each_implies (λ p. behind p ≡ true)
-          (λ p. inside p ≡ false) (λ p e. false_from_ne_true (inside p)
-          (λ yes. let no : true ≡ false = sym e ∙ later start index p yes in absurd cc)) done homes)
-          in
-          let same = filter-append inside done (filter ahead old) ∙ ap
-          (λ us. us ++ filter inside (filter ahead old)) none ∙ filter_filter ahead inside old ∙
-          filter_agree (λ p. ahead p && inside p) inside still_inside old in
+          let same = filter-append inside done (filter ahead old)
+          ∙ ap (λ us. us ++ filter inside (filter ahead old)) (filter_none inside done (each_implies _ not_inside homes))
+          ∙ filter_filter ahead inside old ∙ filter_agree (λ p. ahead p && inside p) inside still_inside old in
           IsPermutation-trans _ _ _ (subst (λ us. IsPermutation us (filter inside before)) same (IsPermutation-filter inside _ _ so_far)) is
 
-      pub map_now : IsPermutation (left ++ filter outside before) after → IsPermutation ((done ++ left) ++ filter beyond old) after
-      map_now is =
-          let all = filter_all outside done (each_implies (λ p. behind p ≡ true) (λ p. outside p ≡ true) (λ p e. not_from_false (inside p)
-          (false_from_ne_true (inside p) (λ yes. let no : true ≡ false = sym e ∙ later start index p
-          yes in absurd cc))) done homes) in
-          let same = filter-append outside done (filter ahead old) ∙ ap
-          (λ us. us ++ filter outside (filter ahead old)) all ∙ ap (λ us. done ++ us)
-          (filter_filter ahead outside old ∙ filter_agree (λ p. ahead p && outside p) beyond
-          still_ahead old) in
-          let rest : IsPermutation (done ++ filter beyond old) (filter outside before) = subst
-          (λ us. IsPermutation us (filter outside before)) same (IsPermutation-filter outside _ _ so_far) in
-          let front : IsPermutation ((done ++ left) ++ filter beyond old) (left ++ (done ++ filter beyond old)) = rw
-          (append_assoc done left (filter beyond old)) (to_front done left (filter beyond old)) in
+      pub map_now : {after : List (K × V)} (left : List (K × V)) → IsPermutation (left ++ filter outside before) after
+          → IsPermutation ((done ++ left) ++ filter beyond old) after
+      map_now left is =
+          let all = filter_all outside done (each_implies _ (λ p e. not_from_false (inside p) (not_inside p e)) homes) in
+          let same = filter-append outside done (filter ahead old) ∙ ap (λ us. us ++ filter outside (filter ahead old)) all
+          ∙ ap (λ us. done ++ us)
+          (filter_filter ahead outside old ∙ filter_agree (λ p. ahead p && outside p) beyond still_ahead old) in
+          let rest = subst (λ us. IsPermutation us (filter outside before)) same (IsPermutation-filter outside _ _ so_far) in
+          let front : IsPermutation ((done ++ left) ++ filter beyond old) (left ++ (done ++ filter beyond old)) =
+          rw (append_assoc done left (filter beyond old)) (to_front done left (filter beyond old)) in
           IsPermutation-trans _ _ _ front (IsPermutation-trans _ _ _ (IsPermutation-append_right left _ _ rest) is)
 
-      pub homes_now : AllByRecursion (λ p. inside p ≡ true) left → AllByRecursion (λ p. through p ≡ true) (done ++ left)
-      homes_now h = each_append (λ p. through p ≡ true) done left (each_implies (λ p. behind p ≡ true)
-          (λ p. through p ≡ true) behind_through done homes)
-          (each_implies (λ p. inside p ≡ true) (λ p. through p ≡ true) inside_through left h)
-
-module _ {K V : Type 0} (hash : K → ℕ) where
-  abbrev pub VisitsIn : (now lent left new : List (K × V)) → ℕ → ℕ → Type 0
-  VisitsIn now lent left new m i = IsPermutation (filter (has_home_in hash m i (i + 1)) now) lent
-      × AllByRecursion (λ pair. has_home_in hash m i (i + 1) pair ≡ true) left
-      × IsPermutation (left ++ filter (λ pair. not (has_home_in hash m i (i + 1) pair)) now) new
+      pub homes_now : (left : List (K × V)) → AllByRecursion (λ p. inside p ≡ true) left
+          → AllByRecursion (λ p. through p ≡ true) (done ++ left)
+      homes_now left h = each_append _ _ _ (each_implies _ behind_through homes) (each_implies _ inside_through h)
 
 module _ {K V : Type 0} (hash : K → ℕ) where
   -- where a walk stands between two calls
@@ -194,63 +171,40 @@ module _ {K V : Type 0} (hash : K → ℕ) where
 
   pub walk_begins : (old : ArraysView K V) (start : ℕ) → IsPartOfWalk old start [] old
   walk_begins old start =
-      let n = length old.current in
-      let none : (p : K × V) → has_home_in hash n start (start + 0) p ≡ false = λ p. is_out _ _
-      (hash p.0) (λ low high. omega (arith, low, high)) in
-      let all = filter_all (λ p. not (has_home_in hash n start (start + 0) p)) (pairs_of old)
-      (each (λ p. not_from_false _ (none p)) (pairs_of old)) in
+      let away : K × V → Bool = λ p. not (has_home_in hash (length old.current) start (start + 0) p) in
+      let all = filter_all away (pairs_of old)
+      (each (λ p. not_from_false _ (is_out _ _ (hash p.0) (λ low high. omega (arith, low, high)))) (pairs_of old)) in
       record {
-        walk = record {
-          lent = tt;
-          pairs = subst (λ us. IsPermutation us (pairs_of old)) (sym all) (IsPermutation-refl (pairs_of old));
-        };
+        walk = record { lent = tt; pairs = subst (λ us. IsPermutation us (pairs_of old)) (sym all) (IsPermutation-refl (pairs_of old)) };
         len = refl;
         homes = tt;
       }
 
   -- the map stays as what it is while old buckets move
-  pub walk_waits : (old now next : ArraysView K V) (start : ℕ)
-      (visits : List (Visited (BucketView K V))) → IsPartOfWalk old start visits now
-      → IsPermutation (pairs_of now) (pairs_of next) → length next.current ≡ length
-      now.current → IsPartOfWalk old start visits next
-  walk_waits old now next start visits part moved len = record {
-    walk = record { lent = part.walk.lent; pairs = IsPermutation-trans _ _ _ part.walk.pairs moved };
-    len = len ∙ part.len;
+  pub walk_waits : {old now next : ArraysView K V} {start : ℕ} {visits : List (Visited (BucketView K V))}
+      → IsPartOfWalk old start visits now → KeepsArrays now next → IsPartOfWalk old start visits next
+  walk_waits {now = now} {next = next} part kept = record {
+    walk = record { lent = part.walk.lent; pairs = IsPermutation-trans _ _ _ part.walk.pairs (keeps_pairs now next kept.keeps) };
+    len = kept.current_len ∙ part.len;
     homes = part.homes;
   }
 
-  pub walk_more : (old now new : ArraysView K V) (start index : ℕ) (visits : List (Visited (BucketView K V))) (v : Visited (BucketView K V))
-      → index ≡ start + length visits → IsPartOfWalk old start visits now → IsVisitOf hash now index v.lent v.left new
-      → IsPartOfWalk old start (visits ++ v ∷ []) new
-  walk_more old now new start index visits v at part visit =
-      let n = length old.current in
-      let order : start ≤ index = omega (arith, at) in
-      let visit' = subst (λ (m : ℕ). VisitsIn hash (pairs_of now) (pairs_in v.lent) (pairs_in v.left) (pairs_of new) m index) part.len
-      (visit.lent_is, visit.left_homes, visit.pairs) in
-      let homes = subst (λ (m : ℕ). AllByRecursion (λ pair. has_home_in hash n start m pair ≡ true)
-      (pairs_left visits)) (sym at) part.homes in
-      let so_far = subst (λ (m : ℕ). IsPermutation (pairs_left visits ++ filter
-      (λ pair. not (has_home_in hash n start m pair)) (pairs_of old)) (pairs_of now)) (sym at)
-      part.walk.pairs in
-      let lent = lent_now hash n start index order (pairs_of old) (pairs_of now) (pairs_of new) (pairs_left visits) (pairs_in v.lent)
-      (pairs_in v.left) homes so_far visit'.0 in
-      let pairs = map_now hash n start index order (pairs_of old) (pairs_of now) (pairs_of new) (pairs_left visits) (pairs_in v.lent)
-      (pairs_in v.left) homes so_far visit'.2 in
-      let all = homes_now hash n start index order (pairs_of old) (pairs_of now) (pairs_of new) (pairs_left visits) (pairs_in v.lent)
-      (pairs_in v.left) homes so_far visit'.1 in
-      let next : index + 1 ≡ start + length (visits ++ v ∷ []) = omega (arith, at, length_push visits v) in
-      let ends = left_more hash n visits v in
+  pub walk_more : {old now new : ArraysView K V} {start index : ℕ} {visits : List (Visited (BucketView K V))}
+      (v : Visited (BucketView K V)) → index ≡ start + length visits → IsPartOfWalk old start visits now
+      → IsVisitOf hash now index v.lent v.left new → IsPartOfWalk old start (visits ++ v ∷ []) new
+  walk_more {old} {now} {new} {start} {index} {visits} v reached part visit =
+      let n : ℕ = length old.current in
+      let end : ℕ = start + length visits in
+      let order : start ≤ end = omega arith in
+      let lent = lent_now hash n start end order _ _ _ part.homes part.walk.pairs (rw (reached, part.len) at visit.lent_is) in
+      let pairs = map_now hash n start end order _ _ _ part.homes part.walk.pairs _ (rw (reached, part.len) at visit.pairs) in
+      let homes = homes_now hash n start end order _ _ _ part.homes part.walk.pairs _ (rw (reached, part.len) at visit.left_homes) in
+      let next : start + length (visits ++ v ∷ []) ≡ end + 1 = omega (arith, length_push visits v) in
+      let left = left_more hash n visits v in
       record {
-        walk = record {
-          lent = lent_more hash n (pairs_of old) start visits v part.walk.lent
-              (subst (λ (m : ℕ). IsPermutation (filter (has_home_in hash n m (m + 1)) (pairs_of old)) (pairs_in v.lent)) at lent);
-          pairs = rw (ends) (subst (λ (m : ℕ). IsPermutation ((pairs_left visits ++ pairs_in v.left) ++ filter
-              (λ pair. not (has_home_in hash n start m pair)) (pairs_of old)) (pairs_of new)) next pairs);
-        };
+        walk = record { lent = lent_more hash n (pairs_of old) start visits v part.walk.lent lent; pairs = rw (left, next) pairs };
         len = visit.len ∙ part.len;
-        homes = rw (ends) (subst (λ (m : ℕ). AllByRecursion
-            (λ pair. has_home_in hash n start m pair ≡ true) (pairs_left visits ++ pairs_in v.left))
-            next all);
+        homes = rw (left, next) homes;
       }
 
 module _ {K V : Type 0} where
@@ -264,7 +218,7 @@ module _ {K V : Type 0} where
   )
 
   -- old buckets move on once more
-  each_waits : (old now ready : ArraysView K V) (start : ℕ) (vs : List (Visited (BucketView K V))) → VisitsEach old start vs now
+  pub each_waits : (old now ready : ArraysView K V) (start : ℕ) (vs : List (Visited (BucketView K V))) → VisitsEach old start vs now
       → MovesOn now ready → VisitsEach old start vs ready
   each_waits old now ready start [] so_far moves = moves_both old now ready so_far moves
   each_waits old now ready start (w ∷ vs) (first, moved, lent, rest) moves =
@@ -289,8 +243,7 @@ module _ {K V : Type 0} where
     each_more (arrays_with first Current start w.left) now ready (start + 1) index vs v (omega (arith, at)) rest moves lent,
   )
 
-module _ {S K V : Type 0} (step : S → BucketView K V → Bool → Bool → BucketView K V → Bool → S
-    → Type 0) (hash : K → ℕ) where
+module _ {S K V : Type 0} (step : S → BucketView K V → Bool → Bool → BucketView K V → Bool → S → Type 0) (hash : K → ℕ) where
   -- what is known between two calls of a walk
   pub record WalksOn (first now : S) (old : ArraysView K V) (start index : ℕ) (flag more : Bool) (table : ArraysView K V) : Type 0 where
     pub visits : List (Visited (BucketView K V))
@@ -315,39 +268,28 @@ module _ {S K V : Type 0} (step : S → BucketView K V → Bool → Bool → Buc
   }
 
   -- a bucket is made ready
-  pub walk_visited : (first now : S) (old table ready : ArraysView K V) (start index : ℕ) (flag more : Bool)
-      → (w : WalksOn first now old start index flag more table) → KeepsArrays table ready → (length table.linked ≡ 0 → ready ≡ table)
-      → VisitsEach old start w.visits ready
-  walk_visited first now old table ready start index flag more w kept waits =
-      each_waits old table ready start w.visits w.visited (kept, waits)
-
-  pub walk_units : (first now : S) (old table ready : ArraysView K V) (start index : ℕ) (flag more : Bool)
-      → (w : WalksOn first now old start index flag more table) → WorksUnits 1 (λ home. home ≡ index) table ready
+  pub walk_units : {first now : S} {old table ready : ArraysView K V} {start index : ℕ} {flag more : Bool}
+      (w : WalksOn first now old start index flag more table) → WorksUnits 1 (λ home. home ≡ index) table ready
       → WorksUnits (length w.visits + 1) (IsInRange start (start + (length w.visits + 1))) old ready
-  walk_units first now old table ready start index flag more w unit =
-      let reached = w.reached in
+  walk_units {old = old} {table = table} {ready = ready} {start = start} w unit =
       units_both (IsInRange start (start + (length w.visits + 1))) (length w.visits) 1 old table ready
       (λ i one. (one.0, omega (arith, one.1)))
-      (λ i here. (omega (arith, here, reached), omega (arith, here, reached))) w.part.len w.units unit
+      (λ i here. (omega (arith, here, w.reached), omega (arith, here, w.reached))) w.part.len w.units unit
 
   -- and visited
-  pub goes_on : (first now next : S) (old table ready : ArraysView K V) (start index : ℕ) (flag last more : Bool) (left : BucketView K V)
+  pub goes_on : {first now next : S} {old table ready : ArraysView K V} {start index : ℕ} {flag last more : Bool} (left : BucketView K V)
       → WalksOn first now old start index flag true table → KeepsArrays table ready → WorksUnits 1 (λ home. home ≡ index) table ready
       → (length table.linked ≡ 0 → ready ≡ table)
-      → step now (bucket_on ready Current index) flag more left last next → IsVisitOf hash ready index (bucket_on ready Current index) left
-      (arrays_with ready Current index left)
+      → step now (bucket_on ready Current index) flag more left last next
+      → IsVisitOf hash ready index (bucket_on ready Current index) left (arrays_with ready Current index left)
       → WalksOn first next old start (index + 1) last more (arrays_with ready Current index left)
-  goes_on first now next old table ready start index flag last more left w kept unit waits call visit =
+  goes_on {first} {now} {next} {old} {table} {ready} {start} {index} {flag} {last} {more} left w kept unit waits call visit =
       let v : Visited (BucketView K V) = record { lent = bucket_on ready Current index; left = left; more = more } in
       record {
         visits = w.visits ++ v ∷ [];
         calls = calls_more step first now next false flag last w.visits v w.calls (w.going refl) call;
-        part = walk_more hash old ready (arrays_with ready Current index left) start index w.visits v w.reached
-            (walk_waits hash old table ready start w.visits w.part (keeps_pairs table ready kept.keeps) kept.current_len) visit;
-        units = rw (length_push w.visits v)
-            (units_as (length w.visits + 1) old ready (arrays_with ready Current index left)
-            (walk_units first now old table ready start index flag true w unit)
-            refl refl);
+        part = walk_more hash v w.reached (walk_waits hash w.part kept) visit;
+        units = rw (length_push w.visits v) (units_as (length w.visits + 1) old ready _ (walk_units w unit) refl refl);
         visited = each_more old table ready start index w.visits v w.reached w.visited (kept, waits) refl;
         reached = omega (arith, w.reached, length_push w.visits v);
         going = λ e. going_more w.visits v (w.going refl) e;

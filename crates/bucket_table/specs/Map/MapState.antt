@@ -13,14 +13,8 @@ pub record MapState (K V H : Type 0) : Type 0 where
 
 -- the map that the table is
 abbrev pub state_of : {K V H : Type 0} → ℕ → TableView K V H → MapState K V H
-state_of kind table =
-    record {
-      kind = kind;
-      hasher = table.hasher;
-      minimum = table.arrays.minimum;
-      maximum = table.arrays.maximum;
-      pairs = pairs_of table.arrays;
-    }
+state_of kind view =
+    record { kind = kind; hasher = view.hasher; minimum = view.arrays.minimum; maximum = view.arrays.maximum; pairs = pairs_of view.arrays }
 
 -- the pairs are these, in any order, and nothing else changes
 pub record Becomes {K V H : Type 0} (old : MapState K V H) (those : List (K × V)) (new : MapState K V H) : Type 0 where

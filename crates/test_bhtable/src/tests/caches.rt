@@ -19,7 +19,8 @@ pub(super) const STORIES: &[Story] = rows! {
         Say("peek 1", "value 4"), Say("count", "1"), Say("has", "true"),
         Say("remove 1", "pair 1 4"), Say("touch 1", "absent"), Say("has", "false"),
         Say("new map id 0 64", "ok"), Say("touch 1", "wrong kind") } }),
-    ("a bucket evicts the pair that was touched, and none where a slot is free", rows! { FULL, rows! {
+    ("a bucket evicts the pair that was touched, and none where a slot is free", rows! {
+        FULL, rows! {
         Say("touch 7", "ok"), Say("evict 0", "pair 7 7"), Say("evict 0", "nothing"),
         Say("touch 7", "absent"), Say("touch 8", "ok"), Say("peek 7", "absent"),
         Say("count", "31") } }),

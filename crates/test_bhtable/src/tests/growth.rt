@@ -2,8 +2,8 @@
 use super::Row::{Each, Say};
 use super::{Row, Story, rows};
 
-// Thirty-one pairs in each of two buckets, and one more: 64 slots have just become 128. The last pair
-// went to a bucket of the old array.
+// Thirty-one pairs in each of two buckets, and one more: 64 slots have just become 128. The last
+// pair went to a bucket of the old array.
 const DOUBLED: &[Row] = rows! {
     Say("new map spread 0 9223372036854775808", "ok"), Each(0, 31, "put # #", "ok"),
     Each(128, 159, "put # #", "ok"), Say("slots", "64"), Say("put 31 31", "ok"),

@@ -6,8 +6,8 @@ use super::{Row, Story, rows};
 const ONE_KEY: &[Row] = rows! { Say("new index zero 0 64\nput 0 0", "ok\nok") };
 
 pub(super) const STORIES: &[Story] = rows! {
-    // Each slot of a removed pair is marked with an epoch that is equal to its hash's byte. Once the
-    // marks go, those slots are taken again.
+    // Each slot of a removed pair is marked with an epoch that is equal to its hash's byte. Once
+    // the marks go, those slots are taken again.
     ("removed keys are absent while their marks are kept and after", rows! { rows! {
         Say("new index zero 0 9223372036854775808", "ok"), Each(0, 32, "put # #", "ok"),
         Each(0, 4, "remove #", "pair # #"), Say("peek 0", "absent"), Say("read 3", "absent"),

@@ -9,8 +9,8 @@ const TWO_UNITS: &[Row] = rows! {
     Say("slots", "8192"), Say("word", "0")
 };
 
-// Lines with their replies, and behind each the rehash word and a look at the pair. The word is 2048
-// times the next unit, and the number of open tickets.
+// Lines with their replies, and behind each the rehash word and a look at the pair. The word is
+// 2048 times the next unit, and the number of open tickets.
 macro_rules! tickets {
     ($($line:literal => $reply:literal, $word:literal;)+) => {
         &[$(Say(

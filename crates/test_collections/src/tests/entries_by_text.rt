@@ -39,8 +39,8 @@ const STEPS: &[Step] = steps! {
     Raises("Ann", None), Len(0), Counts("Ann", 4, 5), Counts("Ann", 4, 6), Counts("An", 0, 1),
     Puts("Ann", 9, false), Puts("", 9, true), Puts("", 8, false), Len(3), Writes("Ann", 7, Some(6)),
     Raises("Ann", Some((7, 8))), Raises("ann", None), Holds("Ann", Some(8)), Holds("An", Some(1)),
-    Holds("", Some(9)), Lends("An", Some(2)), Lends("an", None), Holds("An", Some(2)), Takes("Ann", Some(8)), Takes("Ann", None), Holds("Ann", None),
-    Counts("Ann", 2, 3), Len(3)
+    Holds("", Some(9)), Lends("An", Some(2)), Lends("an", None), Holds("An", Some(2)),
+    Takes("Ann", Some(8)), Takes("Ann", None), Holds("Ann", None), Counts("Ann", 2, 3), Len(3)
 };
 
 #[test]

@@ -35,7 +35,8 @@ impl<S: BuildHasher> KeyForm<String, StdHash<S>> for Unmade {
         KeyForm::<String, StdHash<S>>::hash_by(&self.text, hasher)
     }
 
-    ghost alike = { λ form key other. nat_list_eq_equiv.congr form.text.now (string_bytes key) (string_bytes other) };
+    ghost alike = { λ form key other. nat_list_eq_equiv.congr form.text.now
+        (string_bytes key) (string_bytes other) };
 }
 
 impl<S: BuildHasher> ToKey<String, StdHash<S>> for Unmade {

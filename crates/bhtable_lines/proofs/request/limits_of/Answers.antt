@@ -2,7 +2,9 @@ use Rattle.std.proofs.Common.{arith}
 use Rattle.bhtable_lines.proofs.PowersOfTwo.{next_is_same, at_most_half, refused}
 use Rattle.bhtable_lines.proofs.request.limits_of.Goals.{then-maximum-lt64-via-then-maximum-lt64}
 use Rattle.bhtable_lines.proofs.request.limits_of.Goals.{then-maximum-lt64-via-else-maximum-lt64+then-maximum-gt-MAXIMUM_CAPACITY_LIMIT}
-use Rattle.bhtable_lines.proofs.request.limits_of.Goals.{then-maximum-lt64-via-else-maximum-lt64+else-maximum-gt-MAXIMUM_CAPACITY_LIMIT+then-minimum-maximum}
+use Rattle.bhtable_lines.proofs.request.limits_of.Goals.{
+  then-maximum-lt64-via-else-maximum-lt64+else-maximum-gt-MAXIMUM_CAPACITY_LIMIT+then-minimum-maximum,
+}
 use Rattle.bhtable_lines.proofs.request.limits_of.Goals as goal
 
 pub returns-then-maximum-lt64-clause-accepted : goal.returns-then-maximum-lt64-clause-accepted

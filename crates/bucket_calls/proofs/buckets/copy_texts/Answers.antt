@@ -10,7 +10,8 @@ use Rattle.bucket_calls.proofs.buckets.copy_texts.Goals as goal
 
 pub returns : goal.returns
 returns g c =
-    let went = pairs_visited_from {A = ℕ × ℕ × ℕ} (λ s. (s.0.now, s.1.now, s.2.now)) (λ s. (s.0.ghost_name, s.1.ghost_name, s.2.ghost_name)) _
+    let went = pairs_visited_from {A = ℕ × ℕ × ℕ} (λ s. (s.0.now, s.1.now, s.2.now))
+    (λ s. (s.0.ghost_name, s.1.ghost_name, s.2.ghost_name)) _
     (λ before pair after. after ≡ next_copied before (value_alone g.V.Word.word pair)) _ _ _ c.each_in-there.ensures.calls
     (λ s own value t kept e. ((λ i. (e.met.0.0 i, e.met.0.1 i, e.met.0.2 i)), e.met.1)) in
     let pairs = pairs_in_bucket (g.C.Bucketed.map c.args.table.now) c.args.bucket in

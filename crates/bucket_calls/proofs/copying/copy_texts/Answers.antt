@@ -8,7 +8,8 @@ use Rattle.bucket_calls.proofs.copying.copy_texts.Goals as goal
 
 pub returns : goal.returns
 returns g c =
-    let went = pairs_visited_from {A = ℕ × ℕ × ℕ} (λ s. (s.0.now, s.1.now, s.2.now)) (λ s. (s.0.ghost_name, s.1.ghost_name, s.2.ghost_name)) _
+    let went = pairs_visited_from {A = ℕ × ℕ × ℕ} (λ s. (s.0.now, s.1.now, s.2.now))
+    (λ s. (s.0.ghost_name, s.1.ghost_name, s.2.ghost_name)) _
     (λ before pair after. after ≡ next_text before (text_piece pair)) _ _ _ c.each.ensures
     (λ s own value t kept e. ((λ i. (e.met.0.0 i, e.met.0.1 i, e.met.0.2 i)), e.met.1)) in
     let pairs = (g.C.Bucketed.map c.args.table.now).entries in

@@ -15,7 +15,8 @@ returns-in-Err-Present g c =
 pub returns-in-Err-Memory : goal.returns-in-Err-Memory
 returns-in-Err-Memory g c =
     let code : NotInserted g.row.K.Denot g.row.V.Denot → ℕ = λ why. insert_code {A = Unit {0}} (Err why) in
-    let back = handed_back g.K.PartialEq.eq c.args.key c.args.value c.args.map.now c.in-Err-Memory.field-0-is c.in-Err-Memory.ensures.map.0 in (
+    let back = handed_back g.K.PartialEq.eq c.args.key c.args.value c.args.map.now c.in-Err-Memory.field-0-is
+    c.in-Err-Memory.ensures.map.0 in (
       Err c.in-Err-Memory.field-0,
       sym (ap code c.in-Err-Memory.field-0-is),
       c.in-Err-Memory.ensures.map,

@@ -1,4 +1,5 @@
-use Rattle.bucket_table.proofs.Words.{IsThere, pairs_of, rules, subst, sym, ◌≡◌}
+use Rattle.bucket_table.proofs.Words.{pairs_of, rules, subst, sym, ◌≡◌}
+use Rattle.bucket_table.specs.Map.LookingUp.{IsThere}
 use Rattle.bucket_table.specs.Map.MapState.{state_of}
 use Rattle.bucket_table.proofs.Scripts.CallSteps.{there_before}
 use Rattle.bucket_table.proofs.Map.TakeSteps.{absent_before}
@@ -8,8 +9,8 @@ pub returns-in-Some-clause-step : goal.returns-in-Some-clause-step
 returns-in-Some-clause-step g c =
     let found = c.in-Some.ensures.found in
     let answer : c.in-Some.value ≡ found.1.now = search (rules, found.3) in
-    let there = there_before (λ own. g.K.PartialEq.eq own c.args.key) (state_of g.row.TYPE c.args.table.now)
-    (state_of g.row.TYPE c.reader_sync.new.self) (found.0.now, found.1.now) c.reader_sync.ensures.prepared.map found.2 in (
+    let there = there_before (λ own. g.K.PartialEq.eq own c.args.key) (state_of g.row.TYPE c.args.table.now) (state_of g.row.TYPE c.reader_sync.new.self)
+    (found.0.now, found.1.now) c.reader_sync.ensures.prepared.map found.2 in (
       (
         found.0.now,
         subst (λ (v : g.row.V.Denot). IsThere (λ own. g.K.PartialEq.eq own c.args.key)

@@ -1,7 +1,8 @@
 use Rattle.std.proofs.Common.{refl, rules, subst, sym, ◌∙◌}
 use Rattle.bucket_slots.specs.Sizing.{IsLengthFor}
 use Rattle.bucket_table.proofs.Resize.Following.{pushed_placed}
-use Rattle.bucket_table.proofs.Resize.Remaking.{at_error, begun_keeps, begun_wants, elsewhere, moved_all, not_refused, pushed_unopened, refused, stands, still}
+use Rattle.bucket_table.proofs.Resize.Remaking.{at_error, begun_keeps, begun_wants, elsewhere, moved_all, not_refused}
+use Rattle.bucket_table.proofs.Resize.Remaking.{pushed_unopened, refused, stands, still}
 use Rattle.bucket_table.proofs.arrays.Arrays.rehash_to.Goals as goal
 
 pub returns-in_err-finish_rehash-clause-rehashed : goal.returns-in_err-finish_rehash-clause-rehashed

@@ -1,4 +1,3 @@
-use Rattle.bucket_table.proofs.Words.{refl}
 use Rattle.bucket_table.proofs.Walking.Leaving.{gone_changed}
 use Rattle.bucket_table.proofs.arrays.Arrays.retain_at.Goals as goal
 

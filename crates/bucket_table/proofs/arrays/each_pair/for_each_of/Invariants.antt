@@ -1,6 +1,6 @@
 use denote.Param.Always.{always_mut}
 use Rattle.bucket_slots.specs.Walking.{CallsEach}
-use Rattle.bucket_table.proofs.Words.{length, take, ◌≤◌}
+use Rattle.bucket_table.proofs.Words.{take}
 use Rattle.bucket_table.specs.Map.LookingUp.{pairs_in_all}
 use Rattle.bucket_table.proofs.arrays.each_pair.for_each_of.Given as goal
 

@@ -1,8 +1,8 @@
 use Rattle.std.proofs.Common.{ap, subst, sym, ◌∙◌}
 use Rattle.collections.specs.Changes.{Stays}
 use Rattle.collections.specs.Maps.{map_of}
-use Rattle.collections.proofs.Capacity.{least_gone, no_buckets, none_moving, shrinks_moved, shrinks_none, shrinks_ready, shrinks_refused, slots_gone}
-use Rattle.collections.proofs.Capacity.{some_moving}
+use Rattle.collections.proofs.Capacity.{least_gone, no_buckets, none_moving, shrinks_moved, shrinks_none, shrinks_ready}
+use Rattle.collections.proofs.Capacity.{shrinks_refused, slots_gone, some_moving}
 use Rattle.collections.proofs.hash_map.HashMap.shrink_to_fit.Goals as goal
 
 pub returns-then-pairs-eq0 : goal.returns-then-pairs-eq0

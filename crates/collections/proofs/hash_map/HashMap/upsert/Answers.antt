@@ -7,8 +7,8 @@ use Rattle.collections.proofs.Steps.{upserts}
 use Rattle.collections.proofs.hash_map.HashMap.upsert.Goals as goal
 
 pub returns-clause-map : goal.returns-clause-map
-returns-clause-map g c = subst (λ (old : MapView g.row.K.Denot g.row.V.Denot g.row.H.Denot). Upserts g.K.PartialEq.eq c.args.key c.args.value
-    old (Ok c.in-Ok.earlier) (map_of c.upsert-outcome.new.self)) c.self.view_is
+returns-clause-map g c = subst (λ (old : MapView g.row.K.Denot g.row.V.Denot g.row.H.Denot). Upserts g.K.PartialEq.eq c.args.key
+    c.args.value old (Ok c.in-Ok.earlier) (map_of c.upsert-outcome.new.self)) c.self.view_is
     (upserts g.K.PartialEq.eq g.met.K.Eq.laws 83 c.self.inside.table c.upsert-outcome.new.self c.sound.ensures.one_map.distinct
     c.sound-2.ensures.one_map.distinct c.args.key c.args.value (Ok c.in-Ok.earlier) c.in-Ok.ensures.map)
 

@@ -21,8 +21,8 @@ returns-clause-updated g c =
     let place = c.args.self.now in
     let after = c.change.new.arg2 in
     let lent = c.get_mut_hashed.follows in
-    let found = replaces_there g.K.PartialEq.eq place.map.now (lent.lender after) (g.Q.KeyForm.stands_for place.form) c.get_mut_hashed.result c.in-Some.value
-    after c.in-Some.is (lent.holds after) in
+    let found = replaces_there g.K.PartialEq.eq place.map.now (lent.lender after) (g.Q.KeyForm.stands_for place.form)
+    c.get_mut_hashed.result c.in-Some.value after c.in-Some.is (lent.holds after) in
     (found.0, c.in-Some.value, _, c.change.ensures, found.1)
 
 pub returns-clause-slots : goal.returns-clause-slots
