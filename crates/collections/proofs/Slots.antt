@@ -30,7 +30,6 @@ use Rattle.bucket_table.specs.declared.arrays.side.Side.TheVariants.{Current, Ol
 use Rattle.bucket_table.specs.declared.hash_table.NotInserted.{NotInserted}
 use Rattle.bucket_table.specs.declared.hash_table.NotInserted.TheVariants.{Memory, Present}
 use Rattle.bucket_table.proofs.CallerLemmas.{hasher_kept, homed-permutation, homed_here}
-use Rattle.collections.specs.Changes.{Stays}
 use Rattle.collections.specs.Crowding.{HasAtHome}
 use Rattle.collections.specs.Maps.{MapView, map_of}
 use Rattle.collections.specs.Slots.{ChangesSlots, GrowsSlots, KeepsSlots, LosesSlots, MakesSlots, ShrinksSlots}

@@ -1,7 +1,6 @@
 -- What a closure does that calls a function of keys, where it is called with each pair.
 use Rattle.std.proofs.Common.{suc, ◌≡◌, ◌∙◌, Bool, true, false, if◌then◌else◌, List, [], ◌∷◌, length, refl, sym, ap, subst}
 use denote.Param.Always.{always_mut, mut_next}
-use denote.Param.Members.{Called}
 use Rattle.std.specs.Borrow.{Bor, MutBor}
 use Rattle.std.specs.Fn.{CalledAt, Mut}
 use Rattle.std.specs.List.{FoldsTo, items_where_true}

@@ -1,4 +1,4 @@
-//! A function called with a pair that a table lends.
+//! Functions of a pair that a table lends: a call of one, and that one may always be called.
 ghost use Rattle.std.specs.Prelude.{◌≡◌, true};
 ghost use Rattle.collections.specs.Changes.{Calls};
 
@@ -10,4 +10,21 @@ pub(crate) fn called_with<K, V, F: FnMut(&K, &mut V)>(f: &mut F, key: &K, value:
 {
     f(key, value);
     true
+}
+
+/// States that a function of values lent for writing may always be called. Does nothing at run
+/// time.
+pub(crate) fn learn_asks<K, V, F: FnMut(&K, &mut V) -> bool>(f: &F)
+    requires callable { F.IsAlwaysCallable f.now }
+    ensures { F.IsAlwaysCallable f.now }
+{
+    let _ = f;
+}
+
+/// States that a function of pairs may always be called. Does nothing at run time.
+pub(crate) fn learn_visits<K, V, F: FnMut(&K, &V)>(f: &F)
+    requires callable { F.IsAlwaysCallable f.now }
+    ensures { F.IsAlwaysCallable f.now }
+{
+    let _ = f;
 }

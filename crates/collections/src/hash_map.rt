@@ -5,16 +5,15 @@
 //! pairs.
 //!
 //! Ports scc's `src/hash_map.rs` to an owned map: a call borrows where scc locks.
-ghost use Rattle.std.specs.Prelude.{◌≡◌, ◌<◌, ◌↔◌, ◌-◌, ◌^◌, [], Err, IsTrue, OnErr, is_some};
-ghost use Rattle.std.specs.Prelude.{length, min};
+ghost use Rattle.std.specs.Prelude.{◌≡◌, ◌↔◌, ◌-◌, ◌^◌, [], Err, IsTrue, OnErr, is_some};
+ghost use Rattle.std.specs.Prelude.{min};
 ghost use Rattle.std.specs.Option.{option_copied};
 ghost use Rattle.std.specs.Borrow.{Bor, MutBor};
-ghost use Rattle.bucket_slots.specs.Walking.{CallsEach};
 ghost use Rattle.bucket_table.specs.Map.LookingUp.{IsThere};
 ghost use Rattle.bucket_table.specs.declared.hash_table.NotInserted.TheVariants.{Memory};
 ghost use Rattle.collections.specs.Crowding.{LacksRoom};
-ghost use Rattle.collections.specs.Maps.{contains_by, get_by, IsEmpty, map_len, pairs_in_bucket};
-ghost use Rattle.collections.specs.Changes.{Inserts, Removes, Retains, Rewrites, Upserts};
+ghost use Rattle.collections.specs.Maps.{contains_by, get_by, IsEmpty, map_len};
+ghost use Rattle.collections.specs.Changes.{Inserts, Removes, Rewrites, Upserts};
 ghost use Rattle.collections.specs.Slots.{GrowsSlots, KeepsSlots, LosesSlots};
 
 mod cloning;
@@ -33,6 +32,7 @@ mod lending;
 mod reading;
 mod removing;
 mod replacing;
+mod retaining;
 mod sizing;
 
 use crate::default_hash::DefaultHash;
@@ -71,7 +71,6 @@ pub struct HashMap<K: Eq, V, H: KeyHash<K> = DefaultHash> {
 }
 
 impl<K: Eq, V, H: KeyHash<K>> Model for HashMap<K, V, H> {
-    ghost use Rattle.bucket_slots.specs.Walking.{CallsEach};
     ghost use Rattle.collections.specs.Maps.{MapView, map_of};
 
     ghost Value = { MapView K V H };
@@ -133,50 +132,6 @@ impl<K: Eq, V, H: KeyHash<K>> HashMap<K, V, H> {
     {
         self.room.learn();
         self.table.is_empty()
-    }
-
-    /// Calls a function with each pair once, in the order of the view.
-    ///
-    /// O(slots), and the function's calls. Own: std's loop over `iter`.
-    #[inline(always)]
-    pub fn for_each<F: FnMut(&K, &V)>(&self, mut f: F)
-        requires callable { F.IsAlwaysCallable f }
-        ensures calls { (last : F) × CallsEach (λ state own value after. F.step state own value tt
-            after) f self.now.entries last }
-    {
-        self.for_each_ref(&mut f);
-    }
-
-    /// As `for_each`, with a borrowed function, whose state after the call the contract gives.
-    ///
-    /// O(slots), and the function's calls. scc: `HashMap::iter_sync`.
-    #[inline(always)]
-    pub fn for_each_ref<F: FnMut(&K, &V)>(&self, f: &mut F)
-        requires callable { F.IsAlwaysCallable f.old }
-        ensures again { F.IsAlwaysCallable f.new }
-        ensures calls { CallsEach (λ state own value last. F.step state own value tt last) f.old
-            self.now.entries f.new }
-    {
-        self.room.learn();
-        self.table.for_each(f);
-    }
-
-    /// Calls a function with each pair of one bucket, in the order of the view, and returns whether
-    /// there is such a bucket. The buckets of the slots count first, then those of the old slots:
-    /// together they have the pairs of `for_each`, until a call changes the map.
-    ///
-    /// Moves nothing, and takes no memory. O(1) expected, and the function's calls. Own.
-    #[inline(always)]
-    pub fn for_each_in<F: FnMut(&K, &V)>(&self, bucket: usize, f: &mut F) -> bool
-        requires callable { F.IsAlwaysCallable f.old }
-        ensures again { F.IsAlwaysCallable f.new }
-        ensures there { IsTrue result ↔ bucket < length self.now.bucket_lens }
-        ensures few { IsTrue result → bucket < 2 ^ 58 }
-        ensures calls { CallsEach (λ state own value last. F.step state own value tt last) f.old
-            (pairs_in_bucket self.now bucket) f.new }
-    {
-        self.room.learn();
-        self.table.for_each_in(bucket, f)
     }
 
     /// Returns the number of slots, without those of overflow chains.
@@ -311,38 +266,6 @@ impl<K: Eq + Drop, V: Drop, H: KeyHash<K>> HashMap<K, V, H> {
             .update_by(hash, &mut FormProbe::<Q, H>::new(key), change);
         self.table.sound();
         outcome
-    }
-
-    /// Calls a function with each pair once, its value mutable, and drops each pair for which it
-    /// returns `false`; the others stay, with the values that it left.
-    ///
-    /// Never fails, and takes no memory. O(slots), and the function's calls. std:
-    /// `HashMap::retain`.
-    #[inline(always)]
-    pub fn retain<F: FnMut(&K, &mut V) -> bool>(&mut self, mut f: F)
-        requires callable { F.IsAlwaysCallable f }
-        ensures retained { (last : F) × Retains K.eq
-            (λ state own before answer after next. F.step state own before answer after next)
-            f self.old self.new last }
-    {
-        self.retain_ref(&mut f);
-    }
-
-    /// As `retain`, with a borrowed function, whose state after the call the contract gives.
-    ///
-    /// Never fails, and takes no memory. O(slots), and the function's calls. scc:
-    /// `HashMap::retain_sync`.
-    #[inline(always)]
-    pub fn retain_ref<F: FnMut(&K, &mut V) -> bool>(&mut self, f: &mut F)
-        requires callable { F.IsAlwaysCallable f.old }
-        ensures again { F.IsAlwaysCallable f.new }
-        ensures retained { Retains K.eq
-            (λ state own before answer after last. F.step state own before answer after last)
-            f.old self.old self.new f.new }
-    {
-        self.room.learn();
-        let _ = self.table.retain(f, &());
-        self.table.sound();
     }
 
     /// Drops all pairs and all slots; the hasher and the capacities stay.

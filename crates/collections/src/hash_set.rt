@@ -28,6 +28,7 @@ mod operators;
 mod relating;
 mod sizing;
 
+use crate::calling::{learn_asks, learn_visits};
 use crate::default_hash::DefaultHash;
 use crate::hash_map::{HashMap, NotInserted};
 use crate::key_form::KeyForm;
@@ -153,6 +154,7 @@ impl<K: Eq, H: KeyHash<K>> HashSet<K, H> {
         {
             f(key);
         };
+        learn_visits(&visit);
         self.map.for_each_ref(&mut visit);
     }
 
@@ -174,6 +176,7 @@ impl<K: Eq, H: KeyHash<K>> HashSet<K, H> {
         {
             f(key);
         };
+        learn_visits(&visit);
         self.map.for_each_in(bucket, &mut visit)
     }
 }
@@ -234,6 +237,7 @@ impl<K: Eq + Drop, H: KeyHash<K>> HashSet<K, H> {
             requires { F.IsAlwaysCallable f.now }
             ensures { CalledAt F.FnMut f.entry.now key.now result f.exit.now }
         { f(key) };
+        learn_asks(&keep);
         self.map.retain_ref(&mut keep);
     }
 

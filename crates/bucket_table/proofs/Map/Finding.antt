@@ -38,6 +38,18 @@ module _ {K V : Type 0} where
       units_wider (IsHome (length new.current) hash) 1 old new
       (λ i here. subst (IsHome (length new.current) hash) (sym here) (rw same home)) units
 
+  -- and it is ready where its sources are killed
+  pub home_ready : {A E : Type 0} (hash index : ℕ) (old new : ArraysView K V) (result : Result A E)
+      → IsHome (length old.current) hash index → length new.current ≡ length old.current → OnOk result (AreSourcesKilled new index)
+      → OnOk result (IsReady new hash)
+  home_ready hash index old new (Ok done) home same killed =
+      let here : IsHome (length new.current) hash index = rw same home in
+      record {
+        stands = omega (arith, home.within, same);
+        killed = λ i other. subst (AreSourcesKilled new) (sym (here.the_one i other.own)) killed;
+      }
+  home_ready hash index old new (Err error) home same killed = tt
+
   -- and there is but one
   pub one_home : (hash index : ℕ) (old new : ArraysView K V) → IsHome (length new.current) hash index
       → WorksUnits 1 (IsHome (length new.current) hash) old new → WorksUnits 1 (λ home. home ≡ index) old new

@@ -37,7 +37,8 @@ module _ {S K V : Type 0} (step : S → BucketView K V → Bool → Bool → Buc
     module _ (empties : (s t : S) (lent left : BucketView K V) (flag more last : Bool) → step s lent flag more left last t
         → pairs_in left ≡ [])
       where
-        none_left : (s t : S) (flag last : Bool) (vs : List (Visited (BucketView K V))) → AreCalls step s flag vs t last → pairs_left vs ≡ []
+        none_left : (s t : S) (flag last : Bool) (vs : List (Visited (BucketView K V))) → AreCalls step s flag vs t last
+            → pairs_left vs ≡ []
         none_left s t flag last [] calls = refl
         none_left s t flag last (v ∷ vs) calls =
             ap (λ (ps : List (K × V)). ps ++ pairs_left vs) (empties _ _ _ _ _ _ _ calls.2) ∙ none_left calls.0 t calls.1 last vs calls.4
@@ -66,7 +67,8 @@ module _ {S K V : Type 0} (step : S → BucketView K V → Bool → Bool → Buc
         (empty : length old.current ≡ 0 → pairs_of old ≡ []) (long : 0 < length old.current → IsLength (length old.current))
         (fits : (k : K) → hash k < 2 ^ 64)
       where
-        never_stops : (s t : S) (flag last : Bool) (vs : List (Visited (BucketView K V))) → AreCalls step s flag vs t last → HasStopped vs → ⊥
+        never_stops : (s t : S) (flag last : Bool) (vs : List (Visited (BucketView K V))) → AreCalls step s flag vs t last
+            → HasStopped vs → ⊥
         never_stops s t flag last [] calls stopped = stopped
         never_stops s t flag last (v ∷ vs) calls (inl h) = true≢false (sym (goes _ _ _ _ _ _ _ calls.2) ∙ h)
         never_stops s t flag last (v ∷ vs) calls (inr h) = never_stops calls.0 t calls.1 last vs calls.4 h
@@ -77,7 +79,8 @@ module _ {S K V : Type 0} (step : S → BucketView K V → Bool → Bool → Buc
         reached s t flag last vs calls (inr stopped) = absurd (never_stops s t flag last vs calls stopped)
 
         -- no pair is past its end
-        none_beyond : {A E : Type 0} {a : A} {first now : S} {new : ArraysView K V} (w : WalksBy {E = E} step hash 0 0 first old (Ok a) now new)
+        none_beyond : {A E : Type 0} {a : A} {first now : S} {new : ArraysView K V}
+            (w : WalksBy {E = E} step hash 0 0 first old (Ok a) now new)
             → filter (is_from hash (length old.current) (length w.visits)) (pairs_of old) ≡ []
         none_beyond w =
             none_past hash (length old.current) (length w.visits) (pairs_of old) empty long fits
@@ -86,7 +89,8 @@ module _ {S K V : Type 0} (step : S → BucketView K V → Bool → Bool → Buc
         module _ (count : S → ℕ) (adds : (s t : S) (lent left : BucketView K V) (flag more last : Bool)
             → step s lent flag more left last t → count t ≡ sum_to (count s) (length (pairs_in lent)))
           where
-            counts : (s t : S) (flag last : Bool) (vs : List (Visited (BucketView K V))) → count s ≤ 2 ^ 64 - 1 → AreCalls step s flag vs t last
+            counts : (s t : S) (flag last : Bool) (vs : List (Visited (BucketView K V))) → count s ≤ 2 ^ 64 - 1
+                → AreCalls step s flag vs t last
                 → count t ≡ min (count s + lent_len vs) (2 ^ 64 - 1)
             counts s t flag last [] small calls = let same = ap count calls.0 in omega (arith, same, small)
             counts s t flag last (v ∷ vs) small calls =

@@ -9,7 +9,7 @@ ghost use Rattle.collections.specs.Changes.{Calls, Retains, Rewrites};
 ghost use Rattle.collections.specs.Maps.{get_by, map_of};
 ghost use Rattle.collections.specs.Retaining.{LeavesBuckets};
 
-use crate::calling::called_with;
+use crate::calling::{called_with, learn_asks};
 use crate::hash_cache::HashCache;
 use crate::key_form::{FormProbe, KeyForm};
 use bucket_slots::bucket::CACHE;
@@ -124,6 +124,7 @@ impl<K: Eq + Drop, V: Drop, H: KeyHash<K>> HashCache<K, V, H> {
             ensures { (result ≡ true) × Calls (λ own before after.
                 F.step f.entry.now own before tt after f.exit.now) key.now value.old value.new }
         { called_with(f, key, value) };
+        learn_asks(&keep);
         self.retain(&mut keep);
     }
 }

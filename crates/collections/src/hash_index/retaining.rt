@@ -7,6 +7,7 @@ ghost use Rattle.collections.specs.Changes.{Retains};
 ghost use Rattle.collections.specs.Maps.{map_of};
 ghost use Rattle.collections.specs.Retaining.{LeavesBuckets};
 
+use crate::calling::learn_asks;
 use crate::hash_index::HashIndex;
 use bucket_slots::bucket::{Generation, INDEX};
 use bucket_table::key_hash::KeyHash;
@@ -34,6 +35,7 @@ impl<K: Eq + Drop, V: Drop, H: KeyHash<K>> HashIndex<K, V, H> {
             ensures { (value.new ≡ value.old) × ((lent : Bor V) × (lent.now ≡ value.old)
                 × F.step f.entry.now key.entry lent result f.exit.now) }
         { f(key, &*value) };
+        learn_asks(&keep);
         self.retain_mut(&mut keep, generation);
     }
 

@@ -1,7 +1,9 @@
-//! The iterators over a map's pairs, its keys and its values.
-ghost use Rattle.std.specs.Prelude.{◌≡◌};
+//! The iterators over a map's pairs, its keys and its values, and the calls of a function with each
+//! pair.
+ghost use Rattle.std.specs.Prelude.{◌≡◌, ◌<◌, ◌↔◌, ◌^◌, IsTrue, length};
 ghost use Rattle.std.specs.Map.{keys_of, values_of};
-ghost use Rattle.collections.specs.Maps.{IsUnique};
+ghost use Rattle.bucket_slots.specs.Walking.{CallsEach};
+ghost use Rattle.collections.specs.Maps.{IsUnique, pairs_in_bucket};
 
 use crate::hash_map::HashMap;
 use crate::iterating::{PairKeys, PairValues, TableKeys, TableValues};
@@ -57,6 +59,50 @@ impl<K: Eq, V, H: KeyHash<K>> HashMap<K, V, H> {
         PairValues {
             inner: self.table.pairs(),
         }
+    }
+
+    /// Calls a function with each pair once, in the order of the view.
+    ///
+    /// O(slots), and the function's calls. Own: std's loop over `iter`.
+    #[inline(always)]
+    pub fn for_each<F: FnMut(&K, &V)>(&self, mut f: F)
+        requires callable { F.IsAlwaysCallable f }
+        ensures calls { (last : F) × CallsEach (λ state own value after. F.step state own value tt
+            after) f self.now.entries last }
+    {
+        self.for_each_ref(&mut f);
+    }
+
+    /// As `for_each`, with a borrowed function, whose state after the call the contract gives.
+    ///
+    /// O(slots), and the function's calls. scc: `HashMap::iter_sync`.
+    #[inline(always)]
+    pub fn for_each_ref<F: FnMut(&K, &V)>(&self, f: &mut F)
+        requires callable { F.IsAlwaysCallable f.old }
+        ensures again { F.IsAlwaysCallable f.new }
+        ensures calls { CallsEach (λ state own value last. F.step state own value tt last) f.old
+            self.now.entries f.new }
+    {
+        self.room.learn();
+        self.table.for_each(f);
+    }
+
+    /// Calls a function with each pair of one bucket, in the order of the view, and returns whether
+    /// there is such a bucket. The buckets of the slots count first, then those of the old slots:
+    /// together they have the pairs of `for_each`, until a call changes the map.
+    ///
+    /// Moves nothing, and takes no memory. O(1) expected, and the function's calls. Own.
+    #[inline(always)]
+    pub fn for_each_in<F: FnMut(&K, &V)>(&self, bucket: usize, f: &mut F) -> bool
+        requires callable { F.IsAlwaysCallable f.old }
+        ensures again { F.IsAlwaysCallable f.new }
+        ensures there { IsTrue result ↔ bucket < length self.now.bucket_lens }
+        ensures few { IsTrue result → bucket < 2 ^ 58 }
+        ensures calls { CallsEach (λ state own value last. F.step state own value tt last) f.old
+            (pairs_in_bucket self.now bucket) f.new }
+    {
+        self.room.learn();
+        self.table.for_each_in(bucket, f)
     }
 }
 

@@ -5,7 +5,7 @@ ghost use Rattle.std.specs.Option.{option_copied_mut};
 ghost use Rattle.collections.specs.Changes.{Calls, Retains};
 ghost use Rattle.collections.specs.Maps.{get_by};
 
-use crate::calling::called_with;
+use crate::calling::{called_with, learn_asks};
 use crate::hash_map::HashMap;
 use crate::key_form::KeyForm;
 use bucket_table::key_hash::KeyHash;
@@ -57,6 +57,7 @@ impl<K: Eq + Drop, V: Drop, H: KeyHash<K>> HashMap<K, V, H> {
             ensures { (result ≡ true) × Calls (λ own before after.
                 F.step f.entry.now own before tt after f.exit.now) key.now value.old value.new }
         { called_with(f, key, value) };
+        learn_asks(&keep);
         self.retain_ref(&mut keep);
     }
 }

@@ -1,5 +1,5 @@
 //! The keys of an iterator, inserted into a set.
-ghost use Rattle.std.specs.Prelude.{IfErr, map};
+ghost use Rattle.std.specs.Prelude.{map};
 ghost use Rattle.std.specs.Iterator.{IsFinite};
 ghost use Rattle.collections.specs.Collecting.{PutsKeys, PutsKeysFrom};
 

@@ -8,6 +8,7 @@ ghost use Rattle.bucket_table.specs.Walking.Extracting.{Extracts};
 ghost use Rattle.collections.specs.Extracting.{AsksKey};
 ghost use Rattle.collections.specs.Maps.{IsUnique, map_of};
 
+use crate::calling::learn_asks;
 use crate::extracting::{Extraction, PutBack};
 use crate::hash_map::HashMap;
 use crate::hash_set::HashSet;
@@ -99,5 +100,6 @@ fn next_key<K: Drop, F: FnMut(&K) -> bool>(
         requires { F.IsAlwaysCallable test.now }
         ensures { CalledAt F.FnMut test.entry.now key.now result test.exit.now }
     { test(key) };
+    learn_asks(&pick);
     taken.extract_next(&mut pick)
 }

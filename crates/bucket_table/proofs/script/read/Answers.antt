@@ -9,7 +9,8 @@ pub returns-in-Some-clause-step : goal.returns-in-Some-clause-step
 returns-in-Some-clause-step g c =
     let found = c.in-Some.ensures.found in
     let answer : c.in-Some.value ≡ found.1.now = search (rules, found.3) in
-    let there = there_before (λ own. g.K.PartialEq.eq own c.args.key) (state_of g.row.TYPE c.args.table.now) (state_of g.row.TYPE c.reader_sync.new.self)
+    let there = there_before (λ own. g.K.PartialEq.eq own c.args.key) (state_of g.row.TYPE c.args.table.now)
+    (state_of g.row.TYPE c.reader_sync.new.self)
     (found.0.now, found.1.now) c.reader_sync.ensures.prepared.map found.2 in (
       (
         found.0.now,

@@ -14,8 +14,7 @@ use crate::homes::learn_homes;
 use bucket_slots::bucket::MAP;
 use bucket_table::hash_table::{HashTable, Side};
 use bucket_table::key_hash::KeyHash;
-use std::alloc::AllocError;
-use std::alloc::AllocFailed;
+use std::alloc::{AllocError, AllocFailed};
 
 impl<'a, K: Eq, V, H: KeyHash<K>> VacantEntry<'a, K, V, H> {
     /// Returns the key that was asked for.

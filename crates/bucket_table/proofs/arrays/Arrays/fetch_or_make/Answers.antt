@@ -1,5 +1,5 @@
 use Rattle.bucket_table.proofs.Words.{arith}
-use Rattle.bucket_table.proofs.Map.Finding.{home_worked}
+use Rattle.bucket_table.proofs.Map.Finding.{home_ready, home_worked}
 use Rattle.bucket_table.proofs.Resize.Growing.{kept_made, placed_made}
 use Rattle.bucket_table.proofs.arrays.Arrays.fetch_or_make.Goals as goal
 
@@ -18,6 +18,10 @@ returns-then-has_old-clause-made g c = λ none. absurd (omega (arith, c.has_old.
 pub returns-then-has_old-clause-units : goal.returns-then-has_old-clause-units
 returns-then-has_old-clause-units g c = home_worked c.args.hash c.home-index.result c.args.self.now c.prepare_at.new.self
     c.home-index.ensures c.prepare_at.ensures.kept.current_len c.prepare_at.ensures.units
+
+pub returns-then-has_old-clause-ready : goal.returns-then-has_old-clause-ready
+returns-then-has_old-clause-ready g c = home_ready c.args.hash c.home-index.result c.args.self.now c.prepare_at.new.self
+    c.prepare_at.result c.home-index.ensures c.prepare_at.ensures.kept.current_len c.prepare_at.ensures.ready
 
 pub returns-then-has_old-clause-refused : goal.returns-then-has_old-clause-refused
 returns-then-has_old-clause-refused g c = λ none. absurd (omega (arith, c.has_old.ensures.0 c.if-has_old.true))

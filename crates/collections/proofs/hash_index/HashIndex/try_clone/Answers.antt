@@ -1,6 +1,5 @@
-use Rattle.std.proofs.Common.{◌≡◌, ◌∙◌, [], ap, arith, subst, sym}
-use Rattle.std.specs.Prelude.{◌^◌, min}
-use Rattle.bucket_table.specs.Views.ArraysView.{TableView, marks_of}
+use Rattle.std.proofs.Common.{◌≡◌, arith, subst, sym}
+use Rattle.bucket_table.specs.Views.ArraysView.{TableView}
 use Rattle.collections.specs.Maps.{MapView, map_of}
 use Rattle.collections.proofs.Cloning.{IsCloning, cloned, lowered, none_cloned, one_more_cloned, some_left}
 use Rattle.collections.proofs.hash_index.HashIndex.try_clone.Goals as goal

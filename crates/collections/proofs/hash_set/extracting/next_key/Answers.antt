@@ -1,4 +1,4 @@
-use Rattle.std.proofs.Common.{arith, refl, sym, ◌≡◌, ◌∙◌}
+use Rattle.std.proofs.Common.{refl, sym, ◌≡◌, ◌∙◌}
 use denote.Param.Always.{always_mut, mut_by, mut_next}
 use Rattle.bucket_slots.specs.declared.bucket.TheConstants.{MAP}
 use Rattle.bucket_table.specs.Walking.Extracting.{Extracts}
@@ -6,12 +6,11 @@ use Rattle.collections.specs.Extracting.{AsksKey}
 use Rattle.collections.proofs.Picking.{askable_still, inside_asked}
 use Rattle.collections.proofs.hash_set.extracting.next_key.Goals as goal
 
-pub extract_next-requires : goal.extract_next-requires
-extract_next-requires g c = (
-  omega arith,
-  mut_by _ (λ s. always_mut g.F.FnMut s.0.now) (λ s a i. i)
-      (λ s a r t i e. mut_next g.F.FnMut _ _ _ _ _ e.met.1.called refl i) _ c.requires.callable,
-)
+pub learn_asks-requires : goal.learn_asks-requires
+learn_asks-requires g c = record {
+  callable = mut_by _ (λ s. always_mut g.F.FnMut s.0.now) (λ s a i. i)
+      (λ s a r t i e. mut_next g.F.FnMut _ _ _ _ _ e.met.1.called refl i) _ c.requires.callable;
+}
 
 -- the function that the closure borrows is the one that it was, and was asked of the keys
 went : (g : _) (c : goal.After-test-1 g) → (c.test-1.given.0 ≡ c.extract_next.new.pick.0.now)
