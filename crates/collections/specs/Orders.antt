@@ -14,7 +14,7 @@ use Rattle.bucket_slots.specs.Removing.{slots_without}
 use Rattle.bucket_slots.specs.Slots.{is_free, live_pairs}
 use Rattle.bucket_table.specs.Map.ByKey.{StandsAt}
 use Rattle.bucket_table.specs.Map.Putting.{Goes, slots_left, slots_put}
-use Rattle.bucket_table.specs.Rehash.Carrying.{WentInOrder}
+use Rattle.bucket_table.specs.Rehash.Carrying.{WentInOrder, chained_pairs}
 use Rattle.bucket_table.specs.Resize.Resizing.{IsMade}
 use Rattle.bucket_table.specs.Views.ArraysView.{ArraysView, TableView, pairs_of}
 use Rattle.bucket_table.specs.Views.Sides.{arrays_with, bucket_on}
@@ -32,7 +32,8 @@ pub record MovesOn {K V : Type 0} (old new : ArraysView K V) : Type 0 where
   pub moved : List ℕ
   pub left : (i : ℕ) → (Contains moved i × (listed_pairs (bucket_at new.linked i) ≡ []))
       ⊎ ((listed_pairs (bucket_at new.linked i) ≡ listed_pairs (bucket_at old.linked i))
-      × (pairs_in (bucket_at new.linked i) ≡ pairs_in (bucket_at old.linked i)))
+      × (pairs_in (bucket_at new.linked i) ≡ pairs_in (bucket_at old.linked i))
+      × (chained_pairs (bucket_at new.linked i) ≡ chained_pairs (bucket_at old.linked i)))
   pub stay : (j : ℕ) (at : Place) → is_free (slot_in (bucket_at old.current j) at) ≡ false
       → slot_in (bucket_at new.current j) at ≡ slot_in (bucket_at old.current j) at
   pub came : List (K × V)

@@ -4,10 +4,11 @@ use Rattle.bucket_table.proofs.Words.{CarriesRecency, Contains, Contains-append_
 use Rattle.bucket_table.proofs.Words.{HasLanded, IsDistinct, IsDistinct-IsPermutation, IsEquivalence, IsPermutation, IsPermutation-map}
 use Rattle.bucket_table.proofs.Words.{KeepsPlaces, List, None, Option, Some, TicketState, ℕ, [], ap, append-nil, append_assoc, arith}
 use Rattle.bucket_table.proofs.Words.{bucket_at, cases_eq, entries_among, entries_of, filter, filter-append, flat_map-append}
-use Rattle.bucket_table.proofs.Words.{get_or, inl, inr, listed_pairs, map, map-append}
+use Rattle.bucket_table.proofs.Words.{flattened, length, length-live_pairs-append, nil_from_length, get_or}
+use Rattle.bucket_table.proofs.Words.{inl, inr, listed_pairs, map, map-append}
 use Rattle.bucket_table.proofs.Words.{pairs_in, pairs_of, refl, slot_at, subst, suc, sym, zero, ◌++◌, ◌∙◌, ◌∷◌, ◌≡◌, ◌⊎◌}
 use Rattle.std.specs.Prelude.{flat_map}
-use Rattle.bucket_table.specs.Rehash.Carrying.{CarriesPairs, WentInOrder, has_own_key, listed_among}
+use Rattle.bucket_table.specs.Rehash.Carrying.{CarriesPairs, WentInOrder, chained_pairs, has_own_key, listed_among}
 use Rattle.bucket_table.proofs.Moves.CarriedPairs.{carries_pairs, in_chain, in_own, landing_tells, pairs_among}
 use Rattle.bucket_table.proofs.Moves.MovingInOrder.{chain_still, order_still, own_still}
 use Rattle.bucket_table.proofs.Moves.Landings.{none_left}
@@ -69,10 +70,16 @@ module _ {K V : Type 0} where
       let never = each_listed (λ p. ⊥) (slot_at b.own) b.listed (λ slot p listed here. none_left b slot p none here) in
       nothing (listed_pairs b) never
 
+  -- nor has it one in its chain
+  pub unchained_empty : (b : BucketView K V) → pairs_in b ≡ [] → chained_pairs b ≡ []
+  unchained_empty b none =
+      nil_from_length (chained_pairs b) (omega (arith, ap length none, length-live_pairs-append b.own (flattened b.chain)))
+
   -- no bucket has moved on
   pub carries_unmoved : (old new : ArraysView K V)
       → ((i : ℕ) → (listed_pairs (bucket_at new.linked i) ≡ listed_pairs (bucket_at old.linked i))
-      × (pairs_in (bucket_at new.linked i) ≡ pairs_in (bucket_at old.linked i)))
+      × (pairs_in (bucket_at new.linked i) ≡ pairs_in (bucket_at old.linked i))
+      × (chained_pairs (bucket_at new.linked i) ≡ chained_pairs (bucket_at old.linked i)))
       → KeepsPlaces old.current new.current
       → ((j : ℕ) → listed_pairs (bucket_at new.current j) ≡ listed_pairs (bucket_at old.current j)) → CarriesOrder old new
   carries_unmoved old new left stay same = record {
@@ -85,7 +92,7 @@ module _ {K V : Type 0} where
   }
 
   pub order_same : (a : ArraysView K V) → CarriesOrder a a
-  order_same a = carries_unmoved a a (λ i. (refl, refl)) (stay_same a.current) (λ j. refl)
+  order_same a = carries_unmoved a a (λ i. (refl, refl, refl)) (stay_same a.current) (λ j. refl)
 
   -- the tickets are nothing to the order
   pub order_at_other_tickets : (tickets : TicketState) (old new : ArraysView K V) → CarriesOrder (record old { tickets = tickets }) new
@@ -137,7 +144,7 @@ module _ {K V : Type 0} where
         moved = index ∷ [];
         left = λ i. elim (cases_eq i index) [
           | inl same ↦ inl (rw same (0, omega arith, refl), rw same (unlisted_empty (bucket_at new.linked index) none))
-          | inr apart ↦ inr (ap listed_pairs (others i apart), ap pairs_in (others i apart))
+          | inr apart ↦ inr (ap listed_pairs (others i apart), ap pairs_in (others i apart), ap chained_pairs (others i apart))
         ];
         stay = recency.stay;
         arrived = subst (λ (ps : List (K × V)). All there ps) one (each_listed there (slot_at source.own) source.listed
@@ -181,7 +188,8 @@ module _ {K V : Type 0} where
 
     left_both : (i : ℕ) → (Contains (first.moved ++ later.0) i × (listed_pairs (bucket_at new.linked i) ≡ []))
         ⊎ ((listed_pairs (bucket_at new.linked i) ≡ listed_pairs (bucket_at old.linked i))
-        × (pairs_in (bucket_at new.linked i) ≡ pairs_in (bucket_at old.linked i)))
+        × (pairs_in (bucket_at new.linked i) ≡ pairs_in (bucket_at old.linked i))
+        × (chained_pairs (bucket_at new.linked i) ≡ chained_pairs (bucket_at old.linked i)))
     left_both i = elim (first.left i) [
       | inl gone ↦
           let among = Contains-append_left first.moved later.0 i gone.0 in
@@ -194,7 +202,7 @@ module _ {K V : Type 0} where
           | inl among ↦ inl (Contains-append_right first.moved later.0 i among, gone.1)
           | inr before_that ↦ inl (Contains-append_left first.moved later.0 i before_that.0, gone.1)
         ]
-        | inr same ↦ inr (same.0 ∙ before.0, same.1 ∙ before.1)
+        | inr same ↦ inr (same.0 ∙ before.0, same.1 ∙ before.1, same.2 ∙ before.2)
       ]
     ]
 

@@ -6,7 +6,8 @@ use Rattle.bucket_table.proofs.Words.{entries_of, false, first_tickets, killed_f
 use Rattle.bucket_table.proofs.Words.{marks_of, no_new-append, no_new-refl, pairs_in, refl, subst, suc, sym, true, zero, ◌*◌, ◌/◌, ◌↔◌, ◌∷◌}
 use Rattle.bucket_table.proofs.Words.{◌≡◌}
 use Rattle.bucket_slots.proofs.MarksAfter.{no_new-none}
-use Rattle.bucket_table.proofs.Moves.CarriedOrder.{carries_unmoved, unlisted_empty}
+use Rattle.bucket_table.specs.Rehash.Carrying.{chained_pairs}
+use Rattle.bucket_table.proofs.Moves.CarriedOrder.{carries_unmoved, unchained_empty, unlisted_empty}
 use Rattle.bucket_table.proofs.Moves.Staying.{stay_same}
 use Rattle.bucket_table.proofs.Rehash.Covering.{all_killed, covered_end, covered_start, going_on_end, going_on_start}
 use Rattle.bucket_table.proofs.Views.Killed.{no_pairs}
@@ -59,10 +60,11 @@ module _ {K V : Type 0} where
   unlisted_all : (buckets : List (BucketView K V)) → AreAllKilled (killed_flags buckets)
       → All (λ (bucket : BucketView K V). bucket.killed ≡ true → pairs_in bucket ≡ []) buckets
       → (i : ℕ) → (listed_pairs (bucket_at buckets i) ≡ []) × (pairs_in (bucket_at buckets i) ≡ [])
-  unlisted_all [] killed emptied i = (refl, refl)
+      × (chained_pairs (bucket_at buckets i) ≡ [])
+  unlisted_all [] killed emptied i = (refl, refl, refl)
   unlisted_all (bucket ∷ buckets) killed emptied zero =
       let none = emptied 0 bucket (omega arith) (killed 0 (omega arith)) in
-      (unlisted_empty bucket none, none)
+      (unlisted_empty bucket none, none, unchained_empty bucket none)
   unlisted_all (bucket ∷ buckets) killed emptied (suc i) =
       unlisted_all buckets (λ k below. killed (suc k) (omega arith)) (λ k d below. emptied (suc k) d (omega arith)) i
 
@@ -133,13 +135,14 @@ module _ {K V : Type 0} (old new : ArraysView K V) (ticket : ℕ) (success : Boo
   -- of the order: no bucket moves on, and what goes lists nothing
   still_order : new ≡ record old { tickets = new.tickets } → CarriesOrder old new
   still_order same = rw same
-      (carries_unmoved old (record old { tickets = new.tickets }) (λ i. (refl, refl)) (stay_same old.current) (λ j. refl))
+      (carries_unmoved old (record old { tickets = new.tickets }) (λ i. (refl, refl, refl)) (stay_same old.current) (λ j. refl))
 
   pub ended_order : (answer : Result Bool TicketError) → LosesNoUnit old.linked old.tickets → EndsRehash old ticket success answer new
       → CarriesOrder old new
   ended_order (Ok true) kept ends = rw ends.2
       (carries_unmoved old (record old { linked = []; tickets = first_tickets 0 })
-      (λ i. let none = unlisted_all old.linked ends.1 kept.emptied i in (sym none.0, sym none.1)) (stay_same old.current) (λ j. refl))
+      (λ i. let none = unlisted_all old.linked ends.1 kept.emptied i in (sym none.0, sym none.1, sym none.2)) (stay_same old.current)
+      (λ j. refl))
   ended_order (Ok false) kept ends = still_order ends.1
   ended_order (Err error) kept ends = still_order ends.1
 

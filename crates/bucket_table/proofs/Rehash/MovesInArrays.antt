@@ -123,5 +123,5 @@ module _ {K V : Type 0} (minimum maximum index : ℕ) (c l d m : List (BucketVie
     current_is = kept;
     kept = kept_by kept.len (rw (same, entries_among-kept c d kept) (IsPermutation-refl (entries_among c ++ entries_among l)))
         (rw (same, marks_among-kept c d kept) (no_new-refl (marks_among c ++ marks_among l)))
-        (carries_unmoved before after (λ i. rw same (refl, refl)) kept.stay (λ j. rw (kept.own j, kept.listed j) refl));
+        (carries_unmoved before after (λ i. rw same (refl, refl, refl)) kept.stay (λ j. rw (kept.own j, kept.listed j) refl));
   }

@@ -44,7 +44,8 @@ pub record CarriesOrder {K V : Type 0} (old new : ArraysView K V) : Type 0 where
   pub moved : List ℕ
   pub left : (i : ℕ) → (Contains moved i × (listed_pairs (bucket_at new.linked i) ≡ []))
       ⊎ ((listed_pairs (bucket_at new.linked i) ≡ listed_pairs (bucket_at old.linked i))
-      × (pairs_in (bucket_at new.linked i) ≡ pairs_in (bucket_at old.linked i)))
+      × (pairs_in (bucket_at new.linked i) ≡ pairs_in (bucket_at old.linked i))
+      × (chained_pairs (bucket_at new.linked i) ≡ chained_pairs (bucket_at old.linked i)))
   pub stay : KeepsPlaces old.current new.current
   pub arrived : All (λ pair. (j : ℕ) × Contains (pairs_in (bucket_at new.current j)) pair) (listed_among old.linked moved)
   pub carried : (eq : K → K → Bool) → IsEquivalence eq → IsDistinct eq (map (λ pair. pair.0) (pairs_of old))
