@@ -36,22 +36,26 @@ keeps_none bits at from fits near past = record {
     ]
 
 module _ {K V : Type 0} where
-  -- those of the live own slots that are after a place
+  -- those of the live own slots that are after an own place
   pub own_after : (bucket : BucketView K V) (live : ℕ) (at : Place) (left : ℕ) → IsMaskOf is_live bucket.own live
-      → KeepsAfter live at left
-      → left ≢ 0 → AreOwnAfter bucket at left
-  own_after bucket live at left mask keeps some = go at.block refl
+      → KeepsAfter live at left → at.block ≡ 0 → AreOwnAfter bucket at left
+  own_after bucket live at left mask keeps own =
+      let from = keeps.own own in
+      record {
+        own = own;
+        names = record {
+          ahead = λ i after. from.ahead i after ∙ bit-mask is_live bucket.own live mask i free refl;
+          behind = from.behind;
+        };
+      }
+
+  -- where there are some, the place is an own one
+  pub some_after : (bucket : BucketView K V) (live : ℕ) (at : Place) (left : ℕ) → IsMaskOf is_live bucket.own live
+      → KeepsAfter live at left → left ≢ 0 → AreOwnAfter bucket at left
+  some_after bucket live at left mask keeps some = go at.block refl
     where
       go : (block : ℕ) → at.block ≡ block → AreOwnAfter bucket at left
-      go zero is =
-          let from = keeps.own is in
-          record {
-            own = is;
-            names = record {
-              ahead = λ i after. from.ahead i after ∙ bit-mask is_live bucket.own live mask i free refl;
-              behind = from.behind;
-            };
-          }
+      go zero is = own_after bucket live at left mask keeps is
       go (suc block) is = absurd (some (keeps.chained (λ own. omega (arith, is, own))))
 
   -- where there are none and no chain, no pair is ahead
@@ -74,7 +78,7 @@ module _ {K V : Type 0} where
       → AreAllAfter bucket at left
   all_after bucket live at left all keeps = record {
     none = λ none. none_ahead bucket live at.block at.pos all (rw none at keeps);
-    some = own_after bucket live at left all.mask keeps;
+    some = some_after bucket live at left all.mask keeps;
   }
 
   -- what a digest says that isn't lost
