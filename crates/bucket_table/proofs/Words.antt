@@ -1,27 +1,22 @@
 -- The words that most proofs use, from one place.
-pub use Rattle.bucket_slots.proofs.ArrayNumbers.{scales, small_within}
+pub use Rattle.bucket_slots.proofs.ArrayNumbers.{scales}
+pub use Rattle.bucket_slots.proofs.MarksAfter.{by-no_new, by-trans, no_new-refl, no_new-trans}
 pub use Rattle.bucket_slots.proofs.PairsAfter.{length-entries_in, live_from_pair, live_not_free, map-entries_in, pairs_in-slots_vacated}
 pub use Rattle.bucket_slots.proofs.PairsAfter.{read_apart}
-pub use Rattle.bucket_slots.proofs.Counting.{length-live_pairs-append}
 pub use Rattle.bucket_slots.proofs.Entries.{rotated}
-pub use Rattle.bucket_slots.proofs.MarksAfter.{by-no_new, by-trans, no_new-append, no_new-refl, no_new-trans}
-pub use Rattle.bucket_slots.proofs.RoomAfter.{killed-slots_marked, killed-slots_without}
 pub use Rattle.bucket_slots.specs.ArrayView.{IsNewArray, bucket_at}
 pub use Rattle.bucket_slots.specs.BucketLaws.{IsBucketOf}
 pub use Rattle.bucket_slots.specs.BucketView.{BucketView, Place, all_slots, block_at, bucket_with_value, empty_bucket, entries_in}
 pub use Rattle.bucket_slots.specs.BucketView.{first_place, flattened, listed_pairs, marks_in, null_place, pairs_in, row_at, rows_with}
 pub use Rattle.bucket_slots.specs.BucketView.{slot_in}
-pub use Rattle.bucket_slots.specs.ByUse.{slots_by_use}
 pub use Rattle.bucket_slots.specs.Clearing.{slots_after_insertion}
 pub use Rattle.bucket_slots.specs.Evicting.{slots_evicted, slots_touched}
 pub use Rattle.bucket_slots.specs.Homes.{IsHome, IsInInterval, IsInRange, Meets, interval_width}
 pub use Rattle.bucket_slots.specs.Marking.{HasNoNewMark, MarksBy, slots_marked}
 pub use Rattle.bucket_slots.specs.Moving.{slots_vacated}
-pub use Rattle.bucket_slots.specs.Placing.{place_for_next, slots_with}
 pub use Rattle.bucket_slots.specs.Recency.{is_listed, order_without}
 pub use Rattle.bucket_slots.specs.Removing.{slots_without}
 pub use Rattle.bucket_slots.specs.Sampling.{IsLargeSample}
-pub use Rattle.bucket_slots.specs.Searching.{pair_wanted}
 pub use Rattle.bucket_slots.specs.Sizing.{IsLeastPowerOfTwo, IsLength, IsLengthFor, IsOptimalCapacity}
 pub use Rattle.bucket_slots.specs.Slots.{Slot, free, is_free, is_live, live, live_pair, live_pairs, marked, pair_of, slot_at}
 pub use Rattle.bucket_slots.specs.Walking.{MovesToNext, pairs_ahead}
@@ -34,37 +29,25 @@ pub use Rattle.std.proofs.Common.{◌⊎◌}
 pub use Rattle.std.proofs.Math.Nat.{div-lt_iff_lt-mul, mul-le-mul_right}
 pub use Rattle.std.proofs.lemmas.Bool.{and_from, cases_Bool, cases_eq, cases_lt, eq-eqb, eqb-true, false_from_ne_true, false≢true, le-leb}
 pub use Rattle.std.proofs.lemmas.Bool.{leb-true, lt-ltb, ltb-true, ne_eqb, not_from_false, not_from_true, or_left, or_right, true≢false}
-pub use Rattle.std.proofs.lemmas.Bool.Decides.{nat_tests}
 pub use Rattle.std.proofs.lemmas.Grind.{common_steps}
 pub use Rattle.std.proofs.lemmas.List.{append_assoc, drop_all, get_or-map, get_or-set_same, get_or_default, get_or_past, length-append}
 pub use Rattle.std.proofs.lemmas.List.{length-map, map-append, map-set, nil_from_length, set-get_or, take_all, take_more}
-pub use Rattle.std.proofs.lemmas.List.Concat.{flat_map-append}
 pub use Rattle.std.proofs.lemmas.List.Elements.{All-append, All-cons, All-from_recursion, All-head, All-map, All-nil, All-tail}
 pub use Rattle.std.proofs.lemmas.List.Elements.{Contains-append_cases, Contains-append_left, Contains-append_right, filter-append}
 pub use Rattle.std.proofs.lemmas.List.Elements.{filter_agree, filter_map-append, recursion_from_All}
-pub use Rattle.std.proofs.lemmas.List.Folds.{list_any_at}
 pub use Rattle.std.proofs.lemmas.List.Sorted.{All-permutation, Contains-permutation, IsPermutation-append_comm, IsPermutation-append_left}
 pub use Rattle.std.proofs.lemmas.List.Sorted.{IsPermutation-append_right, IsPermutation-cons, IsPermutation-map, IsPermutation-middle}
 pub use Rattle.std.proofs.lemmas.List.Sorted.{IsPermutation-refl, IsPermutation-sym, IsPermutation-trans, length_permutation}
 pub use Rattle.std.proofs.lemmas.List.Sums.{sum_by-cons}
 pub use Rattle.std.proofs.lemmas.Map.Keys.{IsDistinct-IsPermutation, IsDistinct-tail}
 pub use Rattle.std.proofs.lemmas.Option.{same_Some}
-pub use Rattle.std.specs.Borrow.{Bor}
 pub use Rattle.std.specs.Cmp.{IsEquivalence}
 pub use Rattle.std.specs.List.{All, AllByRecursion, Contains, IsDistinct, cons_option}
 pub use Rattle.std.specs.List.Sorted.{IsPermutation}
-pub use Rattle.std.specs.Option.{option_or}
 pub use Rattle.bucket_table.specs.Layout.Landings.{CarriesRecency, HasLanded, ListsArrivals, StandsInChain, landing_of}
-pub use Rattle.bucket_table.specs.Layout.Moving.{CanMoveInto, HasOwnByte, MovesHome}
-pub use Rattle.bucket_table.specs.Map.ByKey.{PreparesThen, StandsAt}
 pub use Rattle.bucket_table.specs.Map.Counting.{counted_to}
-pub use Rattle.bucket_table.specs.Map.Finding.{Finds, FindsBucket, FindsThen}
 pub use Rattle.bucket_table.specs.Map.LookingUp.{IsAbsent, IsThere, home_bucket, pairs_in_all}
 pub use Rattle.bucket_table.specs.Map.MapState.{AddsPair, ChangesValue, KeepsPairs, MapState, TakesPair}
-pub use Rattle.bucket_table.specs.Map.Preparing.{HomeWantsMemory, IsReady}
-pub use Rattle.bucket_table.specs.Map.Putting.{Goes, Puts, PutsAt, slots_left, slots_put}
-pub use Rattle.bucket_table.specs.Rehash.Carrying.{CarriesOrder, WentFirst, WentInOrder}
-pub use Rattle.bucket_table.specs.Rehash.Covered.{AreAllKilled, IsCovered, IsUnitKilled}
 pub use Rattle.bucket_table.specs.Rehash.Rehashing.{EndsRehash, IsUnmoved, RelocatesAt}
 pub use Rattle.bucket_table.specs.Rehash.Relocation.{AreHome, AreTwoArrays, IsEntryHome, IsVacant, KeepsEntries, KeepsPlaces, MovesInto}
 pub use Rattle.bucket_table.specs.Rehash.Relocation.{entries_among, home_of, homed_len, marks_among}
@@ -72,34 +55,15 @@ pub use Rattle.bucket_table.specs.Rehash.State.{TicketState, first_tickets}
 pub use Rattle.bucket_table.specs.Rehash.Steps.{Closes, Ends, HandsOut, IsOver, Starts}
 pub use Rattle.bucket_table.specs.Rehash.Units.{HasWorkedUnits, KillsOnly, RelocatesSome, SpendsSome, WantsMemory, WorksUnit, WorksUnits}
 pub use Rattle.bucket_table.specs.Resize.Asking.{AsksShrinking, ResizesIf}
-pub use Rattle.bucket_table.specs.Resize.Growing.{Grows, WriterAsksGrowth}
-pub use Rattle.bucket_table.specs.Resize.Renewing.{Awaits, Pours, all_by_age, arrays_by_age, chain_pairs, own_backwards, own_by_age}
 pub use Rattle.bucket_table.specs.Resize.ResizePlan.{IsPlan, IsPlanTo, last_estimate, slots_of}
-pub use Rattle.bucket_table.specs.Resize.Resizing.{TriesResize}
 pub use Rattle.bucket_table.specs.Resize.Sampling.{counted, live_counts}
-pub use Rattle.bucket_table.specs.Scripts.Runs.{Run}
-pub use Rattle.bucket_table.specs.Scripts.TicketCalls.{TicketStep}
 pub use Rattle.bucket_table.specs.Views.ArraysView.{AreArrays, ArePlaced, AreSourcesKilled, ArraysView, IsOneMap, IsSource, LosesNoUnit}
 pub use Rattle.bucket_table.specs.Views.ArraysView.{TableView, entries_of, killed_flags, list_of, marks_of, pairs_of}
 pub use Rattle.bucket_table.specs.Views.Keeping.{Keeps, KeepsArrays, KeepsOpenTickets}
-pub use Rattle.bucket_table.specs.Views.LockedLaws.{locked_change}
 pub use Rattle.bucket_table.specs.Views.Locking.{IsLocked}
-pub use Rattle.bucket_table.specs.Views.Settings.{KeepsSettings}
 pub use Rattle.bucket_table.specs.Views.Sides.{arrays_with, bucket_on, buckets_on, with_bucket}
-pub use Rattle.bucket_table.specs.Walking.ByUse.{own_left}
 pub use Rattle.bucket_table.specs.Walking.Cursors.{HasNoneFrom, ShrinksThenPasses, bound_of}
-pub use Rattle.bucket_table.specs.Walking.Row.{row_of, row_with}
-pub use Rattle.bucket_table.specs.Walking.Sweeps.{RetainsAt}
 pub use Rattle.bucket_table.specs.Walking.Visits.{reading}
 pub use Rattle.bucket_table.specs.Walking.Walks.{has_home_in}
-pub use Rattle.bucket_table.specs.declared.arrays.Missing.{Missing}
-pub use Rattle.bucket_table.specs.declared.arrays.Missing.TheVariants.{Nothing}
-pub use Rattle.bucket_table.specs.declared.arrays.moving.Landing.{Landing}
-pub use Rattle.bucket_table.specs.declared.arrays.plan.Plan.{Plan}
-pub use Rattle.bucket_table.specs.declared.arrays.plan.Plan.TheVariants.{Resize}
 pub use Rattle.bucket_table.specs.declared.arrays.side.Side.{Side}
 pub use Rattle.bucket_table.specs.declared.arrays.side.Side.TheVariants.{Current, Old}
-pub use Rattle.bucket_table.specs.declared.hash_table.NotInserted.{NotInserted}
-pub use Rattle.bucket_table.specs.declared.hash_table.NotInserted.TheVariants.{Present}
-pub use Rattle.bucket_table.specs.declared.tickets.TicketError.{TicketError}
-pub use Rattle.bucket_table.specs.declared.tickets.TicketError.TheVariants.{NotDone, NotOpen}

@@ -15,7 +15,6 @@ ghost use Rattle.bucket_table.specs.Rehash.State.{first_tickets, word_of};
 
 mod by_key;
 mod by_use;
-mod clearing;
 mod counting;
 mod cursor;
 mod draining;

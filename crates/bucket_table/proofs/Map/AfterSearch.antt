@@ -1,11 +1,13 @@
 -- A pair is put into a cache after a search that met none: what was said before the search holds of the put.
-use Rattle.bucket_table.proofs.Words.{All-permutation, Bool, Err, FindsThen, HomeWantsMemory, IsAbsent, IsEquivalence, KeepsPairs, List}
-use Rattle.bucket_table.proofs.Words.{MapState, NotInserted, Option, Present, Puts, PutsAt, Result, Side, TableView, ℕ, ap, arith, false}
-use Rattle.bucket_table.proofs.Words.{length, subst, sym, true≢false, ◌%◌, ◌<◌, ◌∙◌, ◌≡◌}
+use Rattle.bucket_table.proofs.Words.{All-permutation, Bool, Err, IsAbsent, IsEquivalence, KeepsPairs, List, MapState, Option, Result, Side}
+use Rattle.bucket_table.proofs.Words.{TableView, ℕ, ap, arith, false, length, subst, sym, true≢false, ◌%◌, ◌<◌, ◌∙◌, ◌≡◌}
+use Rattle.bucket_table.specs.Map.Finding.{FindsThen}
+use Rattle.bucket_table.specs.Map.Preparing.{HomeWantsMemory, IsPrepared}
+use Rattle.bucket_table.specs.Map.Putting.{Puts, PutsAt}
+use Rattle.bucket_table.specs.declared.hash_table.NotInserted.{NotInserted}
+use Rattle.bucket_table.specs.declared.hash_table.NotInserted.TheVariants.{Memory, Present}
 use Rattle.std.proofs.lemmas.List.Elements.{All-contains}
 use Rattle.bucket_table.specs.Map.MapState.{state_of}
-use Rattle.bucket_table.specs.Map.Preparing.{IsPrepared}
-use Rattle.bucket_table.specs.declared.hash_table.NotInserted.TheVariants.{Memory}
 use Rattle.bucket_table.proofs.Map.Putting.{refused_put}
 
 module _ {K V H : Type 0} where

@@ -1,15 +1,16 @@
 -- Counts of pairs, bucket by bucket, and what a table without pairs drops.
-use Rattle.bucket_table.proofs.Words.{All, ArraysView, Bool, BucketView, Err, IsPermutation, Keeps, List, Ok, Resize, Result, TableView}
-use Rattle.bucket_table.proofs.Words.{TriesResize, ℕ, [], ap, arith, bucket_at, counted, counted_to, entries_among, entries_in, entries_of}
-use Rattle.bucket_table.proofs.Words.{false, flattened, get_or, inl, inr, is_live, length, length-entries_in, length-live_pairs-append}
-use Rattle.bucket_table.proofs.Words.{length-map, length_permutation, live_counts, live_pairs, map, min, pairs_in, pairs_of, refl, suc}
-use Rattle.bucket_table.proofs.Words.{sum_by-cons, sym, take, true, zero, ◌*◌, ◌+◌, ◌-◌, ◌/◌, ◌<◌, ◌^◌, ◌∙◌, ◌∷◌, ◌≡◌}
+use Rattle.bucket_table.proofs.Words.{All, ArraysView, Bool, BucketView, Err, IsPermutation, Keeps, List, Ok, Result, TableView, ℕ, [], ap}
+use Rattle.bucket_table.proofs.Words.{arith, bucket_at, counted, counted_to, entries_among, entries_in, entries_of, false, flattened}
+use Rattle.bucket_table.proofs.Words.{get_or, inl, inr, is_live, length, length-entries_in, length-map, length_permutation, live_counts}
+use Rattle.bucket_table.proofs.Words.{live_pairs, map, min, pairs_in, pairs_of, refl, suc, sum_by-cons, sym, take, true, zero, ◌*◌, ◌+◌}
+use Rattle.bucket_table.proofs.Words.{◌-◌, ◌/◌, ◌<◌, ◌^◌, ◌∙◌, ◌∷◌, ◌≡◌}
+use Rattle.bucket_slots.proofs.Counting.{length-live_pairs, length-live_pairs-append}
+use Rattle.bucket_table.specs.Resize.Resizing.{IsPlanOf, TriesResize}
+use Rattle.bucket_table.specs.declared.arrays.plan.Plan.TheVariants.{Resize}
 use Rattle.std.proofs.Common.{length-append, sum, zero-mul}
 use Rattle.std.proofs.lemmas.List.Sums.{count_by-le-length}
-use Rattle.bucket_slots.proofs.Counting.{length-live_pairs}
 use Rattle.bucket_table.specs.Map.Counting.{IsHeldBy, chained_among}
 use Rattle.bucket_table.specs.Resize.Sampling.{estimate}
-use Rattle.bucket_table.specs.Resize.Resizing.{IsPlanOf}
 use Rattle.bucket_table.proofs.Resize.GivingUp.{plan_alone, plan_code, plan_stands}
 
 -- counts of 0 sum up to 0

@@ -1,11 +1,10 @@
 -- A pair evicted from a hash's home, and what that makes of the table in which the home was prepared.
-use Rattle.bucket_table.proofs.Words.{Current, Err, Goes, HomeWantsMemory, IfSome, IsHome, IsReady, KeepsPairs, None, Ok, Old, Option}
-use Rattle.bucket_table.proofs.Words.{PreparesThen, Side, Some, TableView, TakesPair, ℕ, bucket_on, buckets_on, inl, inr, length, refl}
-use Rattle.bucket_table.proofs.Words.{slots_left, subst, sym, with_bucket, ◌∙◌, ◌≡◌}
-use Rattle.bucket_table.specs.Map.ByKey.{Evicts}
+use Rattle.bucket_table.proofs.Words.{Current, Err, IfSome, IsHome, KeepsPairs, None, Ok, Old, Option, Side, Some, TableView, TakesPair, ℕ}
+use Rattle.bucket_table.proofs.Words.{bucket_on, buckets_on, inl, inr, length, refl, subst, sym, with_bucket, ◌∙◌, ◌≡◌}
+use Rattle.bucket_table.specs.Map.ByKey.{Evicts, PreparesThen}
+use Rattle.bucket_table.specs.Map.Preparing.{HomeWantsMemory, IsPrepared, IsReady}
+use Rattle.bucket_table.specs.Map.Putting.{EvictsAt, Goes, slots_left}
 use Rattle.bucket_table.specs.Map.MapState.{state_of}
-use Rattle.bucket_table.specs.Map.Preparing.{IsPrepared}
-use Rattle.bucket_table.specs.Map.Putting.{EvictsAt}
 use Rattle.bucket_table.proofs.Map.LockedSteps.{with_own}
 use Rattle.bucket_table.proofs.Map.Preparing.{wanting_unready}
 use Rattle.bucket_table.proofs.Map.TakeSteps.{then_taken}

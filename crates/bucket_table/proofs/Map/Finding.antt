@@ -1,13 +1,14 @@
 -- What finding a bucket for a writer, and preparing a home, leave of a table.
-use Rattle.bucket_table.proofs.Words.{AreSourcesKilled, ArraysView, Current, Err, Finds, FindsBucket, Grows, HomeWantsMemory, IfErr, IfOk}
-use Rattle.bucket_table.proofs.Words.{IfSome, IsHome, IsLocked, IsReady, Keeps, KeepsArrays, Missing, None, Nothing, Ok, OnErr, OnOk}
-use Rattle.bucket_table.proofs.Words.{Option, ResizesIf, Result, Side, Some, TableView, WorksUnits, WriterAsksGrowth, ℕ, ap, arith}
+use Rattle.bucket_table.proofs.Words.{AreSourcesKilled, ArraysView, Current, Err, IfErr, IfOk, IfSome, IsHome, IsLocked, Keeps, KeepsArrays}
+use Rattle.bucket_table.proofs.Words.{None, Ok, OnErr, OnOk, Option, ResizesIf, Result, Side, Some, TableView, WorksUnits, ℕ, ap, arith}
 use Rattle.bucket_table.proofs.Words.{buckets_on, cases_lt, inl, inr, length, refl, subst, sym, ◌<◌, ◌≡◌, ◌⊎◌}
-use Rattle.bucket_table.specs.Map.Finding.{FindsNone, MakesReady, ReadiesThenGrows}
+use Rattle.bucket_table.specs.Map.Finding.{Finds, FindsBucket, FindsNone, MakesReady, ReadiesThenGrows}
+use Rattle.bucket_table.specs.Map.Preparing.{HomeWantsMemory, IsMissing, IsPrepared, IsReady}
+use Rattle.bucket_table.specs.Resize.Growing.{Grows, WriterAsksGrowth}
+use Rattle.bucket_table.specs.declared.arrays.Missing.{Missing}
+use Rattle.bucket_table.specs.declared.arrays.Missing.TheVariants.{Memory, Nothing}
 use Rattle.bucket_table.specs.Map.MapState.{state_of}
 use Rattle.bucket_table.specs.Map.Free.{IsRoomy}
-use Rattle.bucket_table.specs.Map.Preparing.{IsMissing, IsPrepared}
-use Rattle.bucket_table.specs.declared.arrays.Missing.TheVariants.{Memory}
 use Rattle.bucket_table.proofs.Rehash.UnitRuns.{units_wider}
 use Rattle.bucket_table.proofs.Scripts.CallSteps.{then_kept}
 use Rattle.bucket_table.proofs.Views.Keeping.{keeps_both, keeps_same, kept_none}

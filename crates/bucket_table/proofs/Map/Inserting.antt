@@ -1,12 +1,13 @@
 -- A pair put into a locked bucket where its key is nowhere, and what that makes of the table in which the bucket was found.
-use Rattle.bucket_table.proofs.Words.{ArraysView, Bool, BucketView, Err, FindsBucket, FindsThen, IsEquivalence, IsHome, IsLocked, IsOneMap}
-use Rattle.bucket_table.proofs.Words.{IsPermutation-refl, KeepsPairs, MapState, NotInserted, Ok, OnErr, OnOk, Present, Result, Side}
-use Rattle.bucket_table.proofs.Words.{TableView, ℕ, bucket_at, bucket_on, buckets_on, length, pairs_of, refl, slots_after_insertion, true}
-use Rattle.bucket_table.proofs.Words.{with_bucket, ◌%◌, ◌≡◌}
+use Rattle.bucket_table.proofs.Words.{ArraysView, Bool, BucketView, Err, IsEquivalence, IsHome, IsLocked, IsOneMap, IsPermutation-refl}
+use Rattle.bucket_table.proofs.Words.{KeepsPairs, MapState, Ok, OnErr, OnOk, Result, Side, TableView, ℕ, bucket_at, bucket_on, buckets_on}
+use Rattle.bucket_table.proofs.Words.{length, pairs_of, refl, slots_after_insertion, true, with_bucket, ◌%◌, ◌≡◌}
+use Rattle.bucket_table.specs.Map.Finding.{FindsBucket, FindsThen}
+use Rattle.bucket_table.specs.declared.hash_table.NotInserted.{NotInserted}
+use Rattle.bucket_table.specs.declared.hash_table.NotInserted.TheVariants.{Memory, Present}
 use Rattle.bucket_table.specs.Map.ByKey.{AnswersInsertion, HandsBack, Inserts, InsertsAt}
 use Rattle.bucket_table.specs.Map.MapState.{state_of}
 use Rattle.bucket_table.specs.Map.Refusing.{IsRefused}
-use Rattle.bucket_table.specs.declared.hash_table.NotInserted.TheVariants.{Memory}
 use Rattle.bucket_table.proofs.Map.LookUps.{searched_absent, searched_found}
 use Rattle.bucket_table.proofs.Map.MapSteps.{Leaves, inserted, unchanged}
 use Rattle.bucket_table.proofs.Map.TakeSteps.{absent_before}

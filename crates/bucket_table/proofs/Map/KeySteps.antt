@@ -1,10 +1,11 @@
 -- What a call by key finds in a table, and which marks it brings.
 use Rattle.bucket_table.proofs.Words.{ArePlaced, ArraysView, Bool, BucketView, Contains-permutation, HasNoNewMark, IfNone, IsAbsent, IsHome}
-use Rattle.bucket_table.proofs.Words.{IsPermutation, List, MarksBy, None, Option, Place, Side, Some, StandsAt, ℕ, ap, arrays_with}
-use Rattle.bucket_table.proofs.Words.{bucket_at, bucket_on, buckets_on, by-no_new, by-trans, home_bucket, length, length-set, marks_in}
-use Rattle.bucket_table.proofs.Words.{marks_of, pair_wanted, pairs_of, slots_touched, subst, true, ◌%◌, ◌<◌, ◌∙◌, ◌≡◌}
+use Rattle.bucket_table.proofs.Words.{IsPermutation, List, MarksBy, None, Option, Place, Side, Some, ℕ, ap, arrays_with, bucket_at}
+use Rattle.bucket_table.proofs.Words.{bucket_on, buckets_on, by-no_new, by-trans, home_bucket, length, length-set, marks_in, marks_of}
+use Rattle.bucket_table.proofs.Words.{pairs_of, slots_touched, subst, true, ◌%◌, ◌<◌, ◌∙◌, ◌≡◌}
+use Rattle.bucket_slots.specs.Searching.{pair_wanted, place_wanted}
+use Rattle.bucket_table.specs.Map.ByKey.{StandsAt}
 use Rattle.bucket_slots.specs.BucketView.{pair_at}
-use Rattle.bucket_slots.specs.Searching.{place_wanted}
 use Rattle.bucket_table.proofs.Map.LookUps.{home_bucket-is, searched_found, unwanted_from_homes}
 use Rattle.bucket_table.proofs.Map.LockedSteps.{put_there}
 use Rattle.bucket_table.proofs.Views.MarksKept.{by-bucket}

@@ -1,7 +1,8 @@
 -- A value beside a wanted key was lent, after its slot was found.
-use Rattle.bucket_table.proofs.Words.{Bool, ChangesValue, IsThere, List, Place, Side, Slot, Some, StandsAt, TableView, ℕ, bucket_on}
+use Rattle.bucket_table.proofs.Words.{Bool, ChangesValue, IsThere, List, Place, Side, Slot, Some, TableView, ℕ, bucket_on}
 use Rattle.bucket_table.proofs.Words.{bucket_with_value, live_pair, pairs_of, same_Some, slot_in, slots_touched, subst, sym, with_bucket}
 use Rattle.bucket_table.proofs.Words.{◌∙◌, ◌≡◌}
+use Rattle.bucket_table.specs.Map.ByKey.{StandsAt}
 use Rattle.bucket_table.specs.Map.Lending.{WritesUnder}
 use Rattle.bucket_table.specs.Map.MapState.{state_of}
 use Rattle.bucket_table.specs.Map.Preparing.{IsPrepared}

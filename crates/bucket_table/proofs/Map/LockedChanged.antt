@@ -1,9 +1,9 @@
 -- What a call of a locked bucket answers and leaves, by what its bucket's own call does.
 use Rattle.bucket_table.proofs.Words.{Bool, BucketView, Err, IfErr, IfOk, Ok, OnErr, OnOk, Place, Result, Side, TableView, ℕ, bucket_on}
-use Rattle.bucket_table.proofs.Words.{if◌then◌else◌, live, place_for_next, refl, slot_in, subst, with_bucket, ◌∙◌, ◌≡◌}
+use Rattle.bucket_table.proofs.Words.{if◌then◌else◌, live, refl, slot_in, subst, with_bucket, ◌∙◌, ◌≡◌}
+use Rattle.bucket_slots.specs.Placing.{IsRefused, place_for_next}
 use Rattle.std.proofs.Common.{is_ok}
 use Rattle.bucket_slots.specs.Clearing.{slots_for_insertion}
-use Rattle.bucket_slots.specs.Placing.{IsRefused}
 use Rattle.bucket_table.specs.Views.LockedChanges.{AnswersPlacing, Changes, bucket_in}
 use Rattle.bucket_table.specs.declared.hash_table.locked_bucket.LockedBucket.{LockedBucket}
 use Rattle.bucket_table.proofs.Views.SideChanges.{arrays_with-same}

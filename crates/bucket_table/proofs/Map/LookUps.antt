@@ -1,17 +1,19 @@
 -- What look-ups in two arrays say of their map.
-use Rattle.bucket_table.proofs.Words.{All, All-append, All-map, All-nil, AreHome, ArePlaced, AreTwoArrays, ArraysView, Bool, Bor}
-use Rattle.bucket_table.proofs.Words.{BucketView, Contains, Contains-append_left, Contains-append_right, Current, IfNone, IfSome, IsAbsent}
-use Rattle.bucket_table.proofs.Words.{IsEntryHome, IsHome, IsInInterval, IsLocked, IsOneMap, IsThere, IsTrue, IsVacant, List, Meets, None}
-use Rattle.bucket_table.proofs.Words.{Old, Option, Place, Side, Some, ℕ, [], all_slots, ap, arith, bucket_at, bucket_on, buckets_on}
-use Rattle.bucket_table.proofs.Words.{cases_eq, entries_among, entries_in, false, false≢true, get_or, home_bucket, home_of, inl, inr}
-use Rattle.bucket_table.proofs.Words.{length, live_pair, map, map-append, map-entries_in, nat_tests, option_or, pair_wanted, pairs_in}
-use Rattle.bucket_table.proofs.Words.{pairs_in_all, pairs_of, refl, slot_in, subst, suc, sym, true, zero, ◌%◌, ◌&&◌, ◌++◌, ◌<◌, ◌==◌, ◌∙◌}
-use Rattle.bucket_table.proofs.Words.{◌∷◌, ◌≡◌}
+use Rattle.bucket_table.proofs.Words.{All, All-append, All-map, All-nil, AreHome, ArePlaced, AreTwoArrays, ArraysView, Bool, BucketView}
+use Rattle.bucket_table.proofs.Words.{Contains, Contains-append_left, Contains-append_right, Current, IfNone, IfSome, IsAbsent, IsEntryHome}
+use Rattle.bucket_table.proofs.Words.{IsHome, IsInInterval, IsLocked, IsOneMap, IsThere, IsTrue, IsVacant, List, Meets, None, Old, Option}
+use Rattle.bucket_table.proofs.Words.{Place, Side, Some, ℕ, [], all_slots, ap, arith, bucket_at, bucket_on, buckets_on, cases_eq}
+use Rattle.bucket_table.proofs.Words.{entries_among, entries_in, false, false≢true, get_or, home_bucket, home_of, inl, inr, length}
+use Rattle.bucket_table.proofs.Words.{live_pair, map, map-append, map-entries_in, pairs_in, pairs_in_all, pairs_of, refl, slot_in, subst}
+use Rattle.bucket_table.proofs.Words.{suc, sym, true, zero, ◌%◌, ◌&&◌, ◌++◌, ◌<◌, ◌==◌, ◌∙◌, ◌∷◌, ◌≡◌}
+use Rattle.bucket_slots.specs.Searching.{pair_wanted, place_wanted}
+use Rattle.std.proofs.lemmas.Bool.Decides.{nat_tests}
+use Rattle.std.specs.Borrow.{Bor}
+use Rattle.std.specs.Option.{option_or}
 use Rattle.bucket_slots.proofs.Entries.{live_pairs-all_free}
 use Rattle.bucket_slots.proofs.SearchedPairs.{found_pair, none_wanted_is, wanted_is}
 use Rattle.bucket_slots.specs.BucketView.{pair_at}
 use Rattle.bucket_slots.specs.Places.{pair_lent}
-use Rattle.bucket_slots.specs.Searching.{place_wanted}
 use Rattle.bucket_slots.specs.declared.bucket.TheConstants.{BUCKET_LEN}
 use Rattle.bucket_table.specs.Map.LookingUp.{lent_buckets, pair_looked_up}
 use Rattle.bucket_table.proofs.Moves.HomesByDivision.{home_of-interval}

@@ -5,16 +5,17 @@ use Rattle.bucket_table.proofs.Words.{IsDistinct-tail, IsEntryHome, IsEquivalenc
 use Rattle.bucket_table.proofs.Words.{IsPermutation-append_left, IsPermutation-cons, IsPermutation-map, IsPermutation-refl}
 use Rattle.bucket_table.proofs.Words.{IsPermutation-trans, KeepsPairs, List, MapState, None, Ok, Old, OnErr, OnOk, Option, Place, Result}
 use Rattle.bucket_table.proofs.Words.{Side, Some, TakesPair, ℕ, [], ap, append-nil, arith, arrays_with, bucket_at, bucket_with_value}
-use Rattle.bucket_table.proofs.Words.{buckets_on, empty_bucket, entries_in, false, get_or, get_or-set_same, killed-slots_marked}
-use Rattle.bucket_table.proofs.Words.{killed-slots_without, length, length-set, live_pair, locked_change, map, map-entries_in, pairs_in}
-use Rattle.bucket_table.proofs.Words.{pairs_of, recursion_from_All, refl, rotated, set, slot_at, slot_in, slots_after_insertion}
-use Rattle.bucket_table.proofs.Words.{slots_evicted, slots_marked, slots_touched, slots_without, subst, ◌%◌, ◌++◌, ◌<◌, ◌∙◌, ◌∷◌, ◌≡◌}
+use Rattle.bucket_table.proofs.Words.{buckets_on, empty_bucket, entries_in, false, get_or, get_or-set_same, length, length-set, live_pair}
+use Rattle.bucket_table.proofs.Words.{map, map-entries_in, pairs_in, pairs_of, recursion_from_All, refl, rotated, set, slot_at, slot_in}
+use Rattle.bucket_table.proofs.Words.{slots_after_insertion, slots_evicted, slots_marked, slots_touched, slots_without, subst, ◌%◌, ◌++◌}
+use Rattle.bucket_table.proofs.Words.{◌<◌, ◌∙◌, ◌∷◌, ◌≡◌}
+use Rattle.bucket_slots.proofs.RoomAfter.{killed-bucket_with_value, killed-slots_after_insertion, killed-slots_marked, killed-slots_without}
+use Rattle.bucket_table.specs.Views.LockedLaws.{locked_change}
 use Rattle.std.proofs.Common.{OnSome}
 use Rattle.std.proofs.lemmas.List.{set-set}
 use Rattle.std.proofs.lemmas.Map.Keys.{IsDistinct-cons}
 use Rattle.bucket_slots.proofs.PairsAfter.{entries_in-slots_evicted, entries_in-slots_without, rewritten}
 use Rattle.bucket_slots.proofs.MarksAfter.{entries_in-slots_after_insertion, entries_in-slots_marked}
-use Rattle.bucket_slots.proofs.RoomAfter.{killed-bucket_with_value, killed-slots_after_insertion}
 use Rattle.bucket_slots.specs.Evicting.{slot_to_evict}
 use Rattle.bucket_table.specs.Map.MapState.{state_of}
 use Rattle.bucket_table.proofs.Views.SideChanges.{Exchanges, IsChangeable, arrays_with-same, buckets_on-arrays_with, homes_moved, homes_on}

@@ -1,13 +1,15 @@
 -- The open tickets stay: what becomes of the arrays says so, call by call.
-use Rattle.bucket_table.proofs.Words.{ArraysView, Bool, BucketView, Current, Err, Finds, FindsThen, KeepsOpenTickets, Missing, NotInserted}
-use Rattle.bucket_table.proofs.Words.{Ok, Option, Place, PreparesThen, Present, ResizesIf, Result, ShrinksThenPasses, Side, TableView}
-use Rattle.bucket_table.proofs.Words.{TriesResize, ℕ, arrays_with, cases_lt, false, inl, inr, refl, true, ◌+◌, ◌-◌}
-use Rattle.bucket_table.specs.Map.ByKey.{ChangesAt, InsertsAt, ShrinksAt}
+use Rattle.bucket_table.proofs.Words.{ArraysView, Bool, BucketView, Current, Err, KeepsOpenTickets, Ok, Option, Place, ResizesIf, Result}
+use Rattle.bucket_table.proofs.Words.{ShrinksThenPasses, Side, TableView, ℕ, arrays_with, cases_lt, false, inl, inr, refl, true, ◌+◌, ◌-◌}
+use Rattle.bucket_table.specs.Map.ByKey.{ChangesAt, InsertsAt, PreparesThen, ShrinksAt}
+use Rattle.bucket_table.specs.Map.Finding.{Finds, FindsThen}
+use Rattle.bucket_table.specs.Resize.Resizing.{Releases, Reserves, Resizes, TriesResize, with_minimum}
+use Rattle.bucket_table.specs.declared.arrays.Missing.{Missing}
+use Rattle.bucket_table.specs.declared.hash_table.NotInserted.{NotInserted}
+use Rattle.bucket_table.specs.declared.hash_table.NotInserted.TheVariants.{Memory, Present}
 use Rattle.bucket_table.specs.Map.Putting.{EvictsAt}
 use Rattle.bucket_table.specs.Map.Counting.{CountsAndResizes}
 use Rattle.bucket_table.specs.Resize.Asking.{RemovesAndShrinks}
-use Rattle.bucket_table.specs.Resize.Resizing.{Releases, Reserves, Resizes, with_minimum}
-use Rattle.bucket_table.specs.declared.hash_table.NotInserted.TheVariants.{Memory}
 use Rattle.bucket_table.proofs.Rehash.TicketSteps.{bag_set, bag_with}
 use Rattle.bucket_table.proofs.Views.Keeping.{bag_both, bag_same}
 

@@ -1,6 +1,7 @@
 -- What moving the sources of a bucket leaves.
-use Rattle.bucket_table.proofs.Words.{AreSourcesKilled, ArraysView, Bool, HomeWantsMemory, IsHome, IsInRange, IsReady, Meets, ℕ, arith}
-use Rattle.bucket_table.proofs.Words.{false≢true, length, sym, true, ◌↔◌, ◌∙◌, ◌≡◌}
+use Rattle.bucket_table.proofs.Words.{AreSourcesKilled, ArraysView, Bool, IsHome, IsInRange, Meets, ℕ, arith, false≢true, length, sym, true}
+use Rattle.bucket_table.proofs.Words.{◌↔◌, ◌∙◌, ◌≡◌}
+use Rattle.bucket_table.specs.Map.Preparing.{HomeWantsMemory, IsReady}
 use Rattle.bucket_table.specs.Rehash.Units.{WorksRange}
 
 module _ {K V : Type 0} where

@@ -1,8 +1,10 @@
 -- What a put does to the slots of a cache's bucket: it is never refused there, and it leaves the chain.
-use Rattle.bucket_table.proofs.Words.{Bool, BucketView, CACHE, Contains, Contains-append_left, Goes, IfNone, IfSome, None, Option, Place}
-use Rattle.bucket_table.proofs.Words.{Some, ℕ, ap, false, first_place, flattened, free, get_or-set_same, is_free, length-set}
-use Rattle.bucket_table.proofs.Words.{live_from_pair, live_pair, place_for_next, refl, slot_at, slots_after_insertion, slots_evicted}
-use Rattle.bucket_table.proofs.Words.{slots_left, slots_put, slots_touched, slots_with, subst, true, ◌↔◌, ◌∙◌, ◌∷◌, ◌≡◌}
+use Rattle.bucket_table.proofs.Words.{Bool, BucketView, CACHE, Contains, Contains-append_left, IfNone, IfSome, None, Option, Place, Some, ℕ}
+use Rattle.bucket_table.proofs.Words.{ap, false, first_place, flattened, free, get_or-set_same, is_free, length-set, live_from_pair}
+use Rattle.bucket_table.proofs.Words.{live_pair, refl, slot_at, slots_after_insertion, slots_evicted, slots_touched, subst, true, ◌↔◌, ◌∙◌}
+use Rattle.bucket_table.proofs.Words.{◌∷◌, ◌≡◌}
+use Rattle.bucket_slots.specs.Placing.{place_for_next, slots_with}
+use Rattle.bucket_table.specs.Map.Putting.{Goes, slots_left, slots_put}
 use Rattle.std.proofs.Common.{IsNone, OnSome}
 use Rattle.std.specs.List.{position}
 use Rattle.bucket_slots.specs.Clearing.{slots_for_insertion}

@@ -1,15 +1,17 @@
 -- A pair put into a locked bucket of a cache, after what goes for it, and what that makes of the table in which the bucket was found.
-use Rattle.bucket_table.proofs.Words.{AddsPair, All-permutation, All-tail, ArraysView, Bool, BucketView, CACHE, Err, FindsBucket, FindsThen}
-use Rattle.bucket_table.proofs.Words.{Goes, IsAbsent, IsEquivalence, IsHome, IsLocked, IsOneMap, IsPermutation-refl, IsPermutation-trans}
-use Rattle.bucket_table.proofs.Words.{KeepsPairs, MapState, None, NotInserted, Ok, Option, Present, Puts, PutsAt, Result, Side, Some}
-use Rattle.bucket_table.proofs.Words.{TableView, ℕ, ap, arrays_with, bucket_at, bucket_on, buckets_on, false, length, length-set, pairs_of}
-use Rattle.bucket_table.proofs.Words.{place_for_next, refl, slots_after_insertion, slots_evicted, slots_left, slots_put, slots_touched}
-use Rattle.bucket_table.proofs.Words.{slots_with, subst, true, with_bucket, ◌%◌, ◌<◌, ◌∙◌, ◌∷◌, ◌≡◌}
+use Rattle.bucket_table.proofs.Words.{AddsPair, All-permutation, All-tail, ArraysView, Bool, BucketView, CACHE, Err, IsAbsent}
+use Rattle.bucket_table.proofs.Words.{IsEquivalence, IsHome, IsLocked, IsOneMap, IsPermutation-refl, IsPermutation-trans, KeepsPairs}
+use Rattle.bucket_table.proofs.Words.{MapState, None, Ok, Option, Result, Side, Some, TableView, ℕ, ap, arrays_with, bucket_at, bucket_on}
+use Rattle.bucket_table.proofs.Words.{buckets_on, false, length, length-set, pairs_of, refl, slots_after_insertion, slots_evicted}
+use Rattle.bucket_table.proofs.Words.{slots_touched, subst, true, with_bucket, ◌%◌, ◌<◌, ◌∙◌, ◌∷◌, ◌≡◌}
+use Rattle.bucket_slots.specs.Placing.{place_for_next, slots_with}
+use Rattle.bucket_table.specs.Map.Finding.{FindsBucket, FindsThen}
+use Rattle.bucket_table.specs.Map.Putting.{Goes, Puts, PutsAt, PutsIn, slots_left, slots_put}
+use Rattle.bucket_table.specs.declared.hash_table.NotInserted.{NotInserted}
+use Rattle.bucket_table.specs.declared.hash_table.NotInserted.TheVariants.{Memory, Present}
 use Rattle.bucket_table.specs.Map.ByKey.{Evicts}
 use Rattle.bucket_table.specs.Map.MapState.{state_of}
 use Rattle.bucket_table.specs.Map.Refusing.{IsRefused}
-use Rattle.bucket_table.specs.Map.Putting.{PutsIn}
-use Rattle.bucket_table.specs.declared.hash_table.NotInserted.TheVariants.{Memory}
 use Rattle.bucket_table.proofs.Map.Inserting.{handed_back}
 use Rattle.bucket_table.proofs.Map.LockedSteps.{put_there, with_own}
 use Rattle.bucket_table.proofs.Map.LookUps.{searched_absent, searched_found}

@@ -1,9 +1,10 @@
 -- A pair is taken out of its home in one array or the other.
-use Rattle.bucket_table.proofs.Words.{ArraysView, Bool, Current, IsEquivalence, IsOneMap, None, Old, Option, PreparesThen, Side, Some}
-use Rattle.bucket_table.proofs.Words.{TableView, ℕ, home_bucket, pair_wanted, refl, slots_without, subst, true, ◌%◌, ◌≡◌}
+use Rattle.bucket_table.proofs.Words.{ArraysView, Bool, Current, IsEquivalence, IsOneMap, None, Old, Option, Side, Some, TableView, ℕ}
+use Rattle.bucket_table.proofs.Words.{home_bucket, refl, slots_without, subst, true, ◌%◌, ◌≡◌}
+use Rattle.bucket_slots.specs.Searching.{pair_wanted}
+use Rattle.bucket_table.specs.Map.ByKey.{PreparesThen, ShrinksAt, Takes}
 use Rattle.bucket_table.specs.Map.Preparing.{IsPrepared}
 use Rattle.std.specs.Prelude.{is_some}
-use Rattle.bucket_table.specs.Map.ByKey.{ShrinksAt, Takes}
 use Rattle.bucket_table.specs.Map.MapState.{state_of}
 use Rattle.bucket_table.specs.Map.Taking.{TakesFrom, TakesOn}
 use Rattle.bucket_table.proofs.Map.LookUps.{unwanted_from_homes}

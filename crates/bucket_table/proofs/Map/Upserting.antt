@@ -1,7 +1,8 @@
 -- A pair put into a locked bucket, or its value written there, and what that makes of the table in which the bucket was found.
-use Rattle.bucket_table.proofs.Words.{ArraysView, Bool, BucketView, Err, FindsBucket, FindsThen, IsEquivalence, IsHome, IsLocked, IsOneMap}
-use Rattle.bucket_table.proofs.Words.{IsPermutation-refl, KeepsPairs, MapState, None, Ok, Option, Result, Side, Some, TableView, ℕ, ap}
-use Rattle.bucket_table.proofs.Words.{bucket_at, bucket_on, buckets_on, length, pairs_of, refl, true, with_bucket, ◌%◌, ◌∙◌, ◌≡◌}
+use Rattle.bucket_table.proofs.Words.{ArraysView, Bool, BucketView, Err, IsEquivalence, IsHome, IsLocked, IsOneMap, IsPermutation-refl}
+use Rattle.bucket_table.proofs.Words.{KeepsPairs, MapState, None, Ok, Option, Result, Side, Some, TableView, ℕ, ap, bucket_at, bucket_on}
+use Rattle.bucket_table.proofs.Words.{buckets_on, length, pairs_of, refl, true, with_bucket, ◌%◌, ◌∙◌, ◌≡◌}
+use Rattle.bucket_table.specs.Map.Finding.{FindsBucket, FindsThen}
 use Rattle.bucket_slots.specs.Digested.{UpsertsIn}
 use Rattle.bucket_table.specs.Map.ByKey.{Upserts, UpsertsAt}
 use Rattle.bucket_table.specs.Map.MapState.{state_of}

@@ -1,8 +1,9 @@
 -- Slots that are listed one after another behind those that their buckets list.
-use Rattle.bucket_table.proofs.Words.{Bool, BucketView, Landing, List, ListsArrivals, None, Option, Some, ℕ, [], ap, append-nil, arith}
-use Rattle.bucket_table.proofs.Words.{bucket_at, cases_eq, eq-eqb, false, false≢true, flat_map-append, get_or, inl, inr, is_listed}
-use Rattle.bucket_table.proofs.Words.{landing_of, length, ne_eqb, refl, set, sym, take, take_more, true, ◌++◌, ◌+◌, ◌<◌, ◌==◌, ◌∙◌, ◌∷◌}
-use Rattle.bucket_table.proofs.Words.{◌≡◌}
+use Rattle.bucket_table.proofs.Words.{Bool, BucketView, List, ListsArrivals, None, Option, Some, ℕ, [], ap, append-nil, arith, bucket_at}
+use Rattle.bucket_table.proofs.Words.{cases_eq, eq-eqb, false, false≢true, get_or, inl, inr, is_listed, landing_of, length, ne_eqb, refl}
+use Rattle.bucket_table.proofs.Words.{set, sym, take, take_more, true, ◌++◌, ◌+◌, ◌<◌, ◌==◌, ◌∙◌, ◌∷◌, ◌≡◌}
+use Rattle.bucket_table.specs.declared.arrays.moving.Landing.{Landing}
+use Rattle.std.proofs.lemmas.List.Concat.{flat_map-append}
 use Rattle.std.proofs.Common.{append_assoc}
 use Rattle.std.proofs.lemmas.Bool.{or_from, or_parts}
 use Rattle.std.proofs.lemmas.List.Folds.{list_any-append}

@@ -1,18 +1,19 @@
 -- Recency that was carried: what the targets list once the pairs of a bucket have landed and their slots were listed.
-use Rattle.bucket_table.proofs.Words.{AreHome, Bool, BucketView, CACHE, CanMoveInto, CarriesRecency, HasLanded, IsBucketOf}
-use Rattle.bucket_table.proofs.Words.{KeepsEntries, KeepsPlaces, Landing, List, ListsArrivals, MovesInto, None, Option, Slot, Some}
-use Rattle.bucket_table.proofs.Words.{WentFirst, ℕ, [], ap, append-nil, arith, bucket_at, cases_Bool, cases_eq, entries_in}
-use Rattle.bucket_table.proofs.Words.{eqb-true, false, false≢true, filter_map-append, free, homed_len}
+use Rattle.bucket_table.proofs.Words.{AreHome, Bool, BucketView, CACHE, CarriesRecency, HasLanded, IsBucketOf, KeepsEntries, KeepsPlaces}
+use Rattle.bucket_table.proofs.Words.{List, ListsArrivals, MovesInto, None, Option, Slot, Some, ℕ, [], ap, append-nil, arith, bucket_at}
+use Rattle.bucket_table.proofs.Words.{cases_Bool, cases_eq, entries_in, eqb-true, false, false≢true, filter_map-append, free, homed_len}
 use Rattle.bucket_table.proofs.Words.{if◌then◌else◌, inl, inr, is_listed, landing_of, length, listed_pairs, live, live_pair, live_pairs}
 use Rattle.bucket_table.proofs.Words.{map, map-append, marked, marks_in, nil_from_length, pairs_in, refl, replicate, slot_at, slot_in}
 use Rattle.bucket_table.proofs.Words.{subst, sym, take, true, ◌++◌, ◌-◌, ◌<◌, ◌==◌, ◌∙◌, ◌∷◌, ◌≡◌}
+use Rattle.bucket_table.specs.Layout.Moving.{CanMoveInto}
+use Rattle.bucket_table.specs.Rehash.Carrying.{WentFirst, WentInOrder}
+use Rattle.bucket_table.specs.declared.arrays.moving.Landing.{Landing}
 use Rattle.std.proofs.Math.Seq.{take-append_seam}
 use Rattle.std.specs.List.{filter}
 use Rattle.bucket_slots.proofs.PlacedSlots.{listed_below}
 use Rattle.bucket_slots.specs.Evicting.{slots_unlisted}
 use Rattle.bucket_slots.specs.Recency.{order_and_zeros}
 use Rattle.bucket_table.specs.Layout.Landings.{HaveLanded, arrivals, carried_to, is_own_of, slot_there}
-use Rattle.bucket_table.specs.Rehash.Carrying.{WentInOrder}
 use Rattle.bucket_table.proofs.Moves.Arriving.{with_more}
 use Rattle.bucket_table.proofs.Moves.Landings.{none_left}
 use Rattle.bucket_table.proofs.Moves.Staying.{contains_at, place_listed, stay_both, stay_same}

@@ -1,14 +1,15 @@
 -- The recency order that goes along where old buckets move on, one step after another.
-use Rattle.bucket_table.proofs.Words.{All, All-append, All-head, All-nil, All-tail, ArraysView, Bool, BucketView, CarriesOrder}
-use Rattle.bucket_table.proofs.Words.{CarriesRecency, Contains, Contains-append_cases, Contains-append_left, Contains-append_right}
-use Rattle.bucket_table.proofs.Words.{HasLanded, IsDistinct, IsDistinct-IsPermutation, IsEquivalence, IsPermutation, IsPermutation-map}
-use Rattle.bucket_table.proofs.Words.{KeepsPlaces, List, None, Option, Some, TicketState, ℕ, [], ap, append-nil, append_assoc, arith}
-use Rattle.bucket_table.proofs.Words.{bucket_at, cases_eq, entries_among, entries_of, filter, filter-append, flat_map-append}
-use Rattle.bucket_table.proofs.Words.{flattened, length, length-live_pairs-append, nil_from_length, get_or}
-use Rattle.bucket_table.proofs.Words.{inl, inr, listed_pairs, map, map-append}
-use Rattle.bucket_table.proofs.Words.{pairs_in, pairs_of, refl, slot_at, subst, suc, sym, zero, ◌++◌, ◌∙◌, ◌∷◌, ◌≡◌, ◌⊎◌}
+use Rattle.bucket_table.proofs.Words.{All, All-append, All-head, All-nil, All-tail, ArraysView, Bool, BucketView, CarriesRecency, Contains}
+use Rattle.bucket_table.proofs.Words.{Contains-append_cases, Contains-append_left, Contains-append_right, HasLanded, IsDistinct}
+use Rattle.bucket_table.proofs.Words.{IsDistinct-IsPermutation, IsEquivalence, IsPermutation, IsPermutation-map, KeepsPlaces, List, None}
+use Rattle.bucket_table.proofs.Words.{Option, Some, TicketState, ℕ, [], ap, append-nil, append_assoc, arith, bucket_at, cases_eq}
+use Rattle.bucket_table.proofs.Words.{entries_among, entries_of, filter, filter-append, flattened, length, nil_from_length, get_or, inl}
+use Rattle.bucket_table.proofs.Words.{inr, listed_pairs, map, map-append, pairs_in, pairs_of, refl, slot_at, subst, suc, sym, zero, ◌++◌}
+use Rattle.bucket_table.proofs.Words.{◌∙◌, ◌∷◌, ◌≡◌, ◌⊎◌}
+use Rattle.bucket_slots.proofs.Counting.{length-live_pairs-append}
+use Rattle.bucket_table.specs.Rehash.Carrying.{CarriesOrder, CarriesPairs, WentInOrder, chained_pairs, has_own_key, listed_among}
+use Rattle.std.proofs.lemmas.List.Concat.{flat_map-append}
 use Rattle.std.specs.Prelude.{flat_map}
-use Rattle.bucket_table.specs.Rehash.Carrying.{CarriesPairs, WentInOrder, chained_pairs, has_own_key, listed_among}
 use Rattle.bucket_table.proofs.Moves.CarriedPairs.{carries_pairs, in_chain, in_own, landing_tells, pairs_among}
 use Rattle.bucket_table.proofs.Moves.MovingInOrder.{chain_still, order_still, own_still}
 use Rattle.bucket_table.proofs.Moves.Landings.{none_left}

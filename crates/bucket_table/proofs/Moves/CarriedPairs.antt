@@ -5,13 +5,13 @@ use Rattle.bucket_table.proofs.Words.{IsPermutation-map, IsPermutation-refl, Lis
 use Rattle.bucket_table.proofs.Words.{StandsInChain, ℕ, [], ap, append-nil, arith, bucket_at, cases_Bool, cases_eq, cases_lt, empty_bucket}
 use Rattle.bucket_table.proofs.Words.{entries_among, entries_in, eq-eqb, eqb-true, false, filter_map-append, flattened, free, get_or}
 use Rattle.bucket_table.proofs.Words.{get_or-map, get_or_default, get_or_past, if◌then◌else◌, inl, inr, is_listed, length, length-append}
-use Rattle.bucket_table.proofs.Words.{length-map, list_any_at, listed_pairs, live, live_pair, live_pairs, map, map-append, map-entries_in}
-use Rattle.bucket_table.proofs.Words.{marked, or_left, or_right, pairs_in, refl, set, slot_at, subst, suc, sym, true, zero, ◌++◌, ◌+◌, ◌<◌}
-use Rattle.bucket_table.proofs.Words.{◌==◌, ◌∙◌, ◌∷◌, ◌≡◌}
+use Rattle.bucket_table.proofs.Words.{length-map, listed_pairs, live, live_pair, live_pairs, map, map-append, map-entries_in, marked}
+use Rattle.bucket_table.proofs.Words.{or_left, or_right, pairs_in, refl, set, slot_at, subst, suc, sym, true, zero, ◌++◌, ◌+◌, ◌<◌, ◌==◌}
+use Rattle.bucket_table.proofs.Words.{◌∙◌, ◌∷◌, ◌≡◌}
+use Rattle.std.proofs.lemmas.List.Folds.{list_any_at, list_any_none}
 use Rattle.std.proofs.Common.{Contains, IsPermutation, append_assoc}
 use Rattle.std.proofs.lemmas.Bool.{eqb-false}
 use Rattle.std.proofs.lemmas.List.{get_or-append-add, get_or-set_other}
-use Rattle.std.proofs.lemmas.List.Folds.{list_any_none}
 use Rattle.std.proofs.lemmas.Map.Keys.{apart_from_distinct}
 use Rattle.std.specs.List.{filter}
 use Rattle.bucket_table.specs.Rehash.Carrying.{CarriesPairs, has_own_key}

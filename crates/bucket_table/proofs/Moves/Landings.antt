@@ -1,10 +1,12 @@
 -- Where the pairs of a bucket's own slots land while they move one after another to their homes.
-use Rattle.bucket_table.proofs.Words.{BucketView, IsBucketOf, KeepsPlaces, Landing, List, MovesHome, None, Option, Place, Some}
-use Rattle.bucket_table.proofs.Words.{StandsInChain, ℕ, [], ap, arith, bucket_at, cases_eq, cases_lt, eq-eqb, false, false≢true}
-use Rattle.bucket_table.proofs.Words.{first_place, get_or-set_same, homed_len, inl, inr, is_free, is_live, landing_of, length, length-set}
-use Rattle.bucket_table.proofs.Words.{length_permutation, listed_pairs, live_from_pair, live_not_free, live_pair, ne_eqb}
-use Rattle.bucket_table.proofs.Words.{pairs_in, pairs_in-slots_vacated, place_for_next, refl, replicate, set, slot_at, slot_in}
-use Rattle.bucket_table.proofs.Words.{slots_vacated, slots_with, subst, suc, sym, true, zero, ◌%◌, ◌<◌, ◌∙◌, ◌≡◌, ◌⊎◌}
+use Rattle.bucket_table.proofs.Words.{BucketView, IsBucketOf, KeepsPlaces, List, None, Option, Place, Some, StandsInChain, ℕ, [], ap, arith}
+use Rattle.bucket_table.proofs.Words.{bucket_at, cases_eq, cases_lt, eq-eqb, false, false≢true, first_place, get_or-set_same, homed_len}
+use Rattle.bucket_table.proofs.Words.{inl, inr, is_free, is_live, landing_of, length, length-set, length_permutation, listed_pairs}
+use Rattle.bucket_table.proofs.Words.{live_from_pair, live_not_free, live_pair, ne_eqb, pairs_in, pairs_in-slots_vacated, refl, replicate}
+use Rattle.bucket_table.proofs.Words.{set, slot_at, slot_in, slots_vacated, subst, suc, sym, true, zero, ◌%◌, ◌<◌, ◌∙◌, ◌≡◌, ◌⊎◌}
+use Rattle.bucket_slots.specs.Placing.{place_for_next, slots_with}
+use Rattle.bucket_table.specs.Layout.Moving.{MovesHome}
+use Rattle.bucket_table.specs.declared.arrays.moving.Landing.{Landing}
 use Rattle.std.proofs.lemmas.List.{get_or-set_other, set_past}
 use Rattle.bucket_slots.proofs.PlacedSlots.{chain_kept, chain_put, free_unlisted, listed-slots_with, listed_pairs-slots_with}
 use Rattle.bucket_slots.proofs.PlacedSlots.{own-slots_vacated, own_kept, own_put, own_vacated, was_free}

@@ -1,8 +1,9 @@
 -- The marks of a bucket whose pairs move on: they stay where they are, also as the bucket is killed.
 use Rattle.bucket_table.proofs.Words.{Bool, BucketView, INDEX, IsBucketOf, List, Option, Slot, Some, ℕ, [], all_slots, ap, append-nil}
 use Rattle.bucket_table.proofs.Words.{arith, block_at, cond, cons_option, false, filter_map-append, flattened, free, get_or, length}
-use Rattle.bucket_table.proofs.Words.{length-append, live, live_pair, marked, marks_in, nat_tests, nil_from_length, refl, row_at, rows_with}
-use Rattle.bucket_table.proofs.Words.{set, slot_at, suc, sum_by-cons, sym, true, zero, ◌++◌, ◌==◌, ◌∙◌, ◌∷◌, ◌≡◌}
+use Rattle.bucket_table.proofs.Words.{length-append, live, live_pair, marked, marks_in, nil_from_length, refl, row_at, rows_with, set}
+use Rattle.bucket_table.proofs.Words.{slot_at, suc, sum_by-cons, sym, true, zero, ◌++◌, ◌==◌, ◌∙◌, ◌∷◌, ◌≡◌}
+use Rattle.std.proofs.lemmas.Bool.Decides.{nat_tests}
 use Rattle.std.specs.Prelude.{filter_map, flat_map, if◌then◌else◌}
 use Rattle.bucket_slots.proofs.PairsAfter.{live_is}
 use Rattle.bucket_slots.proofs.Entries.{filter_map-chain, filter_map-flattened}

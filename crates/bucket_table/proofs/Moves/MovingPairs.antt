@@ -1,17 +1,20 @@
 -- Pairs that move one after another from a bucket to their homes in an array.
-use Rattle.bucket_table.proofs.Words.{All, All-cons, All-head, All-permutation, All-tail, Bool, BucketView, CanMoveInto, HasNoNewMark}
-use Rattle.bucket_table.proofs.Words.{HasOwnByte, IsEntryHome, IsHome, IsInRange, IsPermutation, IsPermutation-append_left}
-use Rattle.bucket_table.proofs.Words.{IsPermutation-append_right, IsPermutation-map, IsPermutation-refl, IsPermutation-trans, Landing, List}
-use Rattle.bucket_table.proofs.Words.{MovesHome, MovesInto, MovesToNext, None, Option, Place, Slot, Some, ℕ, [], ap, arith, bucket_at, cond}
-use Rattle.bucket_table.proofs.Words.{entries_among, entries_in, false, first_place, home_of, homed_len, is_free, landing_of, length}
-use Rattle.bucket_table.proofs.Words.{live_pair, map-entries_in, marks_among, marks_in, nat_tests}
-use Rattle.bucket_table.proofs.Words.{no_new-append, no_new-refl, no_new-trans, null_place, pairs_ahead, pairs_in, pairs_in-slots_vacated}
-use Rattle.bucket_table.proofs.Words.{refl, rotated, set, slot_in, slots_vacated, slots_with, subst, sum_by-cons, sym, true, ◌%◌, ◌++◌, ◌+◌}
-use Rattle.bucket_table.proofs.Words.{◌<◌, ◌==◌, ◌∙◌, ◌∷◌, ◌≡◌, ◌≤◌}
+use Rattle.bucket_table.proofs.Words.{All, All-cons, All-head, All-permutation, All-tail, Bool, BucketView, HasNoNewMark, IsEntryHome}
+use Rattle.bucket_table.proofs.Words.{IsHome, IsInRange, IsPermutation, IsPermutation-append_left, IsPermutation-append_right}
+use Rattle.bucket_table.proofs.Words.{IsPermutation-map, IsPermutation-refl, IsPermutation-trans, List, MovesInto, MovesToNext, None}
+use Rattle.bucket_table.proofs.Words.{Option, Place, Slot, Some, ℕ, [], ap, arith, bucket_at, cond, entries_among, entries_in, false}
+use Rattle.bucket_table.proofs.Words.{first_place, home_of, homed_len, is_free, landing_of, length, live_pair, map-entries_in, marks_among}
+use Rattle.bucket_table.proofs.Words.{marks_in, no_new-refl, no_new-trans, null_place, pairs_ahead, pairs_in, pairs_in-slots_vacated, refl}
+use Rattle.bucket_table.proofs.Words.{rotated, set, slot_in, slots_vacated, subst, sum_by-cons, sym, true, ◌%◌, ◌++◌, ◌+◌, ◌<◌, ◌==◌, ◌∙◌}
+use Rattle.bucket_table.proofs.Words.{◌∷◌, ◌≡◌, ◌≤◌}
+use Rattle.bucket_slots.proofs.MarksAfter.{marks_in-slots_with, no_new-append, no_new-same}
+use Rattle.bucket_slots.specs.Placing.{slots_with}
+use Rattle.bucket_table.specs.Layout.Moving.{CanMoveInto, HasOwnByte, MovesHome}
+use Rattle.bucket_table.specs.declared.arrays.moving.Landing.{Landing}
+use Rattle.std.proofs.lemmas.Bool.Decides.{nat_tests}
 use Rattle.std.proofs.lemmas.List.Sorted.{sum_by-IsPermutation}
 use Rattle.bucket_table.specs.Layout.Landings.{MoveInOrder}
 use Rattle.bucket_slots.proofs.PairsAfter.{entries_in-slots_vacated, entries_in-slots_with}
-use Rattle.bucket_slots.proofs.MarksAfter.{marks_in-slots_with, no_new-same}
 use Rattle.bucket_slots.proofs.RoomAfter.{free_len_in-none, free_len_in-slots_with, killed-slots_vacated, killed-slots_with}
 use Rattle.bucket_slots.specs.Reserving.{free_len_in}
 use Rattle.bucket_table.specs.Rehash.Relocation.{IsWay}

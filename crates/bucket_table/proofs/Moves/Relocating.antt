@@ -1,11 +1,11 @@
 -- An old bucket whose pairs have moved to their homes, and the law of two arrays then.
-use Rattle.bucket_table.proofs.Words.{All, All-map, All-nil, AreHome, AreTwoArrays, BucketView, CanMoveInto, HasOwnByte, IsBucketOf}
-use Rattle.bucket_table.proofs.Words.{IsEntryHome, IsInRange, IsLength, IsPermutation, IsPermutation-append_left}
-use Rattle.bucket_table.proofs.Words.{IsPermutation-append_right, IsPermutation-refl, IsPermutation-trans, IsVacant, KeepsEntries, List}
-use Rattle.bucket_table.proofs.Words.{Meets, MovesInto, ℕ, [], ap, append-nil, arith, bucket_at, cases_eq, empty_bucket, entries_among}
-use Rattle.bucket_table.proofs.Words.{entries_in, false, get_or, home_of, inl, inr, interval_width, length, map-entries_in, marks_among}
-use Rattle.bucket_table.proofs.Words.{no_new-refl, pairs_in, refl, rotated, scales, set, set-get_or, subst, sym, true, true≢false, ◌++◌}
-use Rattle.bucket_table.proofs.Words.{◌/◌, ◌<◌, ◌↔◌, ◌∙◌, ◌≡◌, ◌≤◌}
+use Rattle.bucket_table.proofs.Words.{All, All-map, All-nil, AreHome, AreTwoArrays, BucketView, IsBucketOf, IsEntryHome, IsInRange}
+use Rattle.bucket_table.proofs.Words.{IsLength, IsPermutation, IsPermutation-append_left, IsPermutation-append_right, IsPermutation-refl}
+use Rattle.bucket_table.proofs.Words.{IsPermutation-trans, IsVacant, KeepsEntries, List, Meets, MovesInto, ℕ, [], ap, append-nil, arith}
+use Rattle.bucket_table.proofs.Words.{bucket_at, cases_eq, empty_bucket, entries_among, entries_in, false, get_or, home_of, inl, inr}
+use Rattle.bucket_table.proofs.Words.{interval_width, length, map-entries_in, marks_among, no_new-refl, pairs_in, refl, rotated, scales}
+use Rattle.bucket_table.proofs.Words.{set, set-get_or, subst, sym, true, true≢false, ◌++◌, ◌/◌, ◌<◌, ◌↔◌, ◌∙◌, ◌≡◌, ◌≤◌}
+use Rattle.bucket_table.specs.Layout.Moving.{CanMoveInto, HasOwnByte}
 use Rattle.std.proofs.Common.{append_assoc}
 use Rattle.bucket_slots.proofs.ArrayNumbers.{one_source}
 use Rattle.bucket_slots.proofs.MarksAfter.{marks_in-slots_killed}

@@ -1,6 +1,9 @@
 -- Pairs that an array has spread from a bucket's own slots are at home.
-use Rattle.bucket_table.proofs.Words.{Bor, BucketView, CanMoveInto, IsHome, List, MovesHome, Place, ℕ, [], ap, arith, bucket_at, cases_Bool}
-use Rattle.bucket_table.proofs.Words.{inl, inr, length, null_place, place_for_next, refl, subst, suc, sym, zero, ◌%◌, ◌+◌, ◌==◌, ◌≡◌}
+use Rattle.bucket_table.proofs.Words.{BucketView, IsHome, List, Place, ℕ, [], ap, arith, bucket_at, cases_Bool, inl, inr, length}
+use Rattle.bucket_table.proofs.Words.{null_place, refl, subst, suc, sym, zero, ◌%◌, ◌+◌, ◌==◌, ◌≡◌}
+use Rattle.bucket_slots.specs.Placing.{place_for_next}
+use Rattle.bucket_table.specs.Layout.Moving.{CanMoveInto, MovesHome}
+use Rattle.std.specs.Borrow.{Bor}
 use Rattle.std.specs.Prelude.{◌&&◌}
 use Rattle.bucket_slots.specs.Spreading.{Spreads, SpreadsOne, SpreadsSome}
 use Rattle.bucket_table.specs.Layout.Landings.{landings_with}

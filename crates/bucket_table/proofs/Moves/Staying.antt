@@ -4,12 +4,12 @@ use Rattle.bucket_table.proofs.Words.{Contains-append_right, KeepsPlaces, List, 
 use Rattle.bucket_table.proofs.Words.{arith, block_at, cases_eq, cases_lt, cons_option, eq-eqb, false, filter_map-append, first_place}
 use Rattle.bucket_table.proofs.Words.{flattened, free, get_or, get_or-set_other, get_or-set_same, get_or_past, if◌then◌else◌, inl, inr}
 use Rattle.bucket_table.proofs.Words.{is_free, is_listed, length, live, live_pair, live_pairs, map, marked, or_left, or_right, pairs_in}
-use Rattle.bucket_table.proofs.Words.{place_for_next, refl, replicate, row_at, rows_with, set, slot_at, slot_in, slots_with, subst, suc}
-use Rattle.bucket_table.proofs.Words.{sym, true, true≢false, zero, ◌++◌, ◌<◌, ◌==◌, ◌∙◌, ◌∷◌, ◌≡◌, ◌⊎◌}
+use Rattle.bucket_table.proofs.Words.{refl, replicate, row_at, rows_with, set, slot_at, slot_in, subst, suc, sym, true, true≢false, zero}
+use Rattle.bucket_table.proofs.Words.{◌++◌, ◌<◌, ◌==◌, ◌∙◌, ◌∷◌, ◌≡◌, ◌⊎◌}
+use Rattle.bucket_slots.specs.Placing.{free_block, place_for_next, slots_with, with_place_made}
 use Rattle.std.specs.Prelude.{filter_map, is_some}
 use Rattle.bucket_slots.proofs.BucketPlacing.{place_made}
 use Rattle.bucket_slots.specs.BucketView.{with_slot, with_slot_at}
-use Rattle.bucket_slots.specs.Placing.{free_block, with_place_made}
 use Rattle.bucket_slots.specs.Reserving.{with_free_blocks}
 
 some_of : {A : Type 0} (o : Option A) → (o ≡ None → ⊥) → is_some o ≡ true

@@ -1,7 +1,8 @@
 -- Where the pair in a slot goes: by its key's hash, or by its byte where its bucket has one target alone.
-use Rattle.bucket_table.proofs.Words.{All, All-head, All-permutation, BucketView, HasOwnByte, IsHome, IsInRange, IsLength, Place, Slot}
-use Rattle.bucket_table.proofs.Words.{Some, ℕ, ap, arith, entries_in, home_of, live_pair, pair_of, pairs_in, pairs_in-slots_vacated}
-use Rattle.bucket_table.proofs.Words.{slot_in, slots_vacated, sym, ◌%◌, ◌+◌, ◌∙◌, ◌≡◌, ◌≤◌}
+use Rattle.bucket_table.proofs.Words.{All, All-head, All-permutation, BucketView, IsHome, IsInRange, IsLength, Place, Slot, Some, ℕ, ap}
+use Rattle.bucket_table.proofs.Words.{arith, entries_in, home_of, live_pair, pair_of, pairs_in, pairs_in-slots_vacated, slot_in}
+use Rattle.bucket_table.proofs.Words.{slots_vacated, sym, ◌%◌, ◌+◌, ◌∙◌, ◌≡◌, ◌≤◌}
+use Rattle.bucket_table.specs.Layout.Moving.{HasOwnByte}
 use Rattle.std.specs.Option.{option_map}
 use Rattle.bucket_slots.proofs.PairsAfter.{entries_in-slots_vacated_at, live_is}
 use Rattle.bucket_slots.specs.Slots.{byte_of}

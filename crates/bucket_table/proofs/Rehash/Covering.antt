@@ -1,9 +1,10 @@
 -- Starting, working and ending keep every unit covered.
-use Rattle.bucket_table.proofs.Words.{All, All-cons, All-head, All-permutation, All-tail, AreAllKilled, Bool, Closes, Contains}
-use Rattle.bucket_table.proofs.Words.{Contains-append_cases, Contains-append_left, Contains-append_right, Contains-permutation, Ends}
-use Rattle.bucket_table.proofs.Words.{HandsOut, IsCovered, IsOver, IsUnitKilled, List, TicketState, ℕ, [], arith, cases_eq, cases_lt}
-use Rattle.bucket_table.proofs.Words.{div-lt_iff_lt-mul, false, false≢true, get_or, get_or-set_other, if◌then◌else◌, inl, inr, length}
-use Rattle.bucket_table.proofs.Words.{length-set, min, refl, set, subst, sym, true, ⊎_elim, ◌*◌, ◌/◌, ◌<◌, ◌∙◌, ◌∷◌, ◌≡◌, ◌≢◌, ◌≤◌, ◌⊎◌}
+use Rattle.bucket_table.proofs.Words.{All, All-cons, All-head, All-permutation, All-tail, Bool, Closes, Contains, Contains-append_cases}
+use Rattle.bucket_table.proofs.Words.{Contains-append_left, Contains-append_right, Contains-permutation, Ends, HandsOut, IsOver, List}
+use Rattle.bucket_table.proofs.Words.{TicketState, ℕ, [], arith, cases_eq, cases_lt, div-lt_iff_lt-mul, false, false≢true, get_or}
+use Rattle.bucket_table.proofs.Words.{get_or-set_other, if◌then◌else◌, inl, inr, length, length-set, min, refl, set, subst, sym, true}
+use Rattle.bucket_table.proofs.Words.{⊎_elim, ◌*◌, ◌/◌, ◌<◌, ◌∙◌, ◌∷◌, ◌≡◌, ◌≢◌, ◌≤◌, ◌⊎◌}
+use Rattle.bucket_table.specs.Rehash.Covered.{AreAllKilled, IsCovered, IsUnitKilled}
 use Rattle.std.proofs.Common.{get_or-set_same}
 use Rattle.std.proofs.lemmas.List.Elements.{Contains-get_or, Contains-push_cases}
 use Rattle.std.specs.Prelude.{Ok}

@@ -1,12 +1,14 @@
 -- What starting and ending a ticket leave of a table's arrays.
-use Rattle.bucket_table.proofs.Words.{All, AreAllKilled, ArePlaced, ArraysView, Bool, BucketView, CarriesOrder, Ends, EndsRehash, Err}
-use Rattle.bucket_table.proofs.Words.{HasNoNewMark, IsPermutation, IsTrue, IsUnitKilled, List, LosesNoUnit, None, NotDone, NotOpen, Ok}
-use Rattle.bucket_table.proofs.Words.{Option, Result, Some, Starts, TicketError, TicketState, ℕ, [], ap, arith, bucket_at}
-use Rattle.bucket_table.proofs.Words.{entries_of, false, first_tickets, killed_flags, length, length_permutation, listed_pairs, marks_among}
-use Rattle.bucket_table.proofs.Words.{marks_of, no_new-append, no_new-refl, pairs_in, refl, subst, suc, sym, true, zero, ◌*◌, ◌/◌, ◌↔◌, ◌∷◌}
+use Rattle.bucket_table.proofs.Words.{All, ArePlaced, ArraysView, Bool, BucketView, Ends, EndsRehash, Err, HasNoNewMark, IsPermutation}
+use Rattle.bucket_table.proofs.Words.{IsTrue, List, LosesNoUnit, None, Ok, Option, Result, Some, Starts, TicketState, ℕ, [], ap, arith}
+use Rattle.bucket_table.proofs.Words.{bucket_at, entries_of, false, first_tickets, killed_flags, length, length_permutation, listed_pairs}
+use Rattle.bucket_table.proofs.Words.{marks_among, marks_of, no_new-refl, pairs_in, refl, subst, suc, sym, true, zero, ◌*◌, ◌/◌, ◌↔◌, ◌∷◌}
 use Rattle.bucket_table.proofs.Words.{◌≡◌}
-use Rattle.bucket_slots.proofs.MarksAfter.{no_new-none}
-use Rattle.bucket_table.specs.Rehash.Carrying.{chained_pairs}
+use Rattle.bucket_slots.proofs.MarksAfter.{no_new-append, no_new-none}
+use Rattle.bucket_table.specs.Rehash.Carrying.{CarriesOrder, chained_pairs}
+use Rattle.bucket_table.specs.Rehash.Covered.{AreAllKilled, IsUnitKilled}
+use Rattle.bucket_table.specs.declared.tickets.TicketError.{TicketError}
+use Rattle.bucket_table.specs.declared.tickets.TicketError.TheVariants.{NotDone, NotOpen}
 use Rattle.bucket_table.proofs.Moves.CarriedOrder.{carries_unmoved, unchained_empty, unlisted_empty}
 use Rattle.bucket_table.proofs.Moves.Staying.{stay_same}
 use Rattle.bucket_table.proofs.Rehash.Covering.{all_killed, covered_end, covered_start, going_on_end, going_on_start}

@@ -1,8 +1,10 @@
 -- A unit of a rehash that no one else works at.
-use Rattle.bucket_table.proofs.Words.{ArraysView, Bool, EndsRehash, Err, HandsOut, IsCovered, IsInRange, List, LosesNoUnit, None, Ok}
-use Rattle.bucket_table.proofs.Words.{Result, Some, Starts, TicketError, TicketState, WantsMemory, WorksUnit, ℕ, [], ap, arith, cases_lt}
-use Rattle.bucket_table.proofs.Words.{false, inl, inr, killed_flags, length, length_permutation, nil_from_length, refl, sym, true}
-use Rattle.bucket_table.proofs.Words.{true≢false, ◌*◌, ◌+◌, ◌/◌, ◌∙◌, ◌≡◌}
+use Rattle.bucket_table.proofs.Words.{ArraysView, Bool, EndsRehash, Err, HandsOut, IsInRange, List, LosesNoUnit, None, Ok, Result, Some}
+use Rattle.bucket_table.proofs.Words.{Starts, TicketState, WantsMemory, WorksUnit, ℕ, [], ap, arith, cases_lt, false, inl, inr}
+use Rattle.bucket_table.proofs.Words.{killed_flags, length, length_permutation, nil_from_length, refl, sym, true, true≢false, ◌*◌, ◌+◌, ◌/◌}
+use Rattle.bucket_table.proofs.Words.{◌∙◌, ◌≡◌}
+use Rattle.bucket_table.specs.Rehash.Covered.{IsCovered}
+use Rattle.bucket_table.specs.declared.tickets.TicketError.{TicketError}
 use Rattle.bucket_table.specs.Rehash.Finishing.{Finishes, units_left}
 use Rattle.bucket_table.proofs.Rehash.Covering.{position_after}
 use Rattle.bucket_table.proofs.Rehash.Wanting.{unit_wants}

@@ -1,10 +1,11 @@
 -- A bucket's move, as the arrays see it.
 use Rattle.bucket_table.proofs.Words.{All, All-cons, All-nil, AreArrays, ArePlaced, AreTwoArrays, ArraysView, Bool, BucketView}
-use Rattle.bucket_table.proofs.Words.{CarriesOrder, CarriesRecency, Err, HasNoNewMark, IsPermutation, IsPermutation-refl, IsUnmoved}
-use Rattle.bucket_table.proofs.Words.{KeepsArrays, KeepsEntries, List, LosesNoUnit, Ok, OnErr, OnOk, RelocatesAt, Result, TicketState, ℕ}
-use Rattle.bucket_table.proofs.Words.{[], ap, arith, bucket_at, cases_eq, empty_bucket, entries_among, get_or-set_other, inl, inr}
-use Rattle.bucket_table.proofs.Words.{killed_flags, length, length-set, map-set, marks_among, no_new-refl, pairs_in, refl, set, suc, sym}
-use Rattle.bucket_table.proofs.Words.{true, ◌++◌, ◌<◌, ◌∙◌, ◌∷◌, ◌≡◌}
+use Rattle.bucket_table.proofs.Words.{CarriesRecency, Err, HasNoNewMark, IsPermutation, IsPermutation-refl, IsUnmoved, KeepsArrays}
+use Rattle.bucket_table.proofs.Words.{KeepsEntries, List, LosesNoUnit, Ok, OnErr, OnOk, RelocatesAt, Result, TicketState, ℕ, [], ap, arith}
+use Rattle.bucket_table.proofs.Words.{bucket_at, cases_eq, empty_bucket, entries_among, get_or-set_other, inl, inr, killed_flags, length}
+use Rattle.bucket_table.proofs.Words.{length-set, map-set, marks_among, no_new-refl, pairs_in, refl, set, suc, sym, true, ◌++◌, ◌<◌, ◌∙◌}
+use Rattle.bucket_table.proofs.Words.{◌∷◌, ◌≡◌}
+use Rattle.bucket_table.specs.Rehash.Carrying.{CarriesOrder}
 use Rattle.std.proofs.Common.{get_or-set_same}
 use Rattle.bucket_table.specs.Rehash.Relocation.{IsRelocated}
 use Rattle.bucket_table.proofs.Moves.CarriedOrder.{carries_unmoved, order_one}

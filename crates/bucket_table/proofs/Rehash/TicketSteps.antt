@@ -1,8 +1,9 @@
 -- What the calls of a rehash do to the machine of tickets.
 use Rattle.bucket_table.proofs.Words.{ArraysView, Bool, BucketView, Current, EndsRehash, IsPermutation-refl, IsTrue, IsUnmoved}
-use Rattle.bucket_table.proofs.Words.{KeepsOpenTickets, KeepsPairs, Old, RelocatesAt, Result, Side, TableView, TicketError, ℕ, arith}
-use Rattle.bucket_table.proofs.Words.{arrays_with, bucket_at, cases_lt, entries_of, false, false≢true, get_or, inl, inr, killed_flags}
-use Rattle.bucket_table.proofs.Words.{length, pairs_of, refl, set, sym, true, with_bucket, ◌<◌, ◌↔◌, ◌∙◌, ◌≡◌, ◌≤◌}
+use Rattle.bucket_table.proofs.Words.{KeepsOpenTickets, KeepsPairs, Old, RelocatesAt, Result, Side, TableView, ℕ, arith, arrays_with}
+use Rattle.bucket_table.proofs.Words.{bucket_at, cases_lt, entries_of, false, false≢true, get_or, inl, inr, killed_flags, length, pairs_of}
+use Rattle.bucket_table.proofs.Words.{refl, set, sym, true, with_bucket, ◌<◌, ◌↔◌, ◌∙◌, ◌≡◌, ◌≤◌}
+use Rattle.bucket_table.specs.declared.tickets.TicketError.{TicketError}
 use Rattle.bucket_table.specs.Map.MapState.{state_of}
 use Rattle.bucket_table.specs.Scripts.TicketCalls.{rehash_of}
 use Rattle.bucket_table.proofs.Rehash.Ending.{others_ended}

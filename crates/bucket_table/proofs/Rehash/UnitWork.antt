@@ -1,11 +1,13 @@
 -- A unit whose ticket is handed out, worked and ended.
 use Rattle.bucket_table.proofs.Words.{ArraysView, Bool, Closes, Contains-permutation, Ends, EndsRehash, Err, HandsOut, HasWorkedUnits}
-use Rattle.bucket_table.proofs.Words.{IsInRange, IsOver, IsPermutation, IsPermutation-refl, IsTrue, IsUnitKilled, KeepsArrays}
-use Rattle.bucket_table.proofs.Words.{KeepsOpenTickets, KillsOnly, List, LosesNoUnit, None, NotDone, NotOpen, Ok, Option, Result, Some}
-use Rattle.bucket_table.proofs.Words.{SpendsSome, Starts, TicketError, TicketState, WorksUnit, WorksUnits, ℕ, ap, arith, bucket_at}
-use Rattle.bucket_table.proofs.Words.{cases_Bool, cases_eq, cond, entries_of, false, inl, inr, killed_flags, length, length_permutation}
-use Rattle.bucket_table.proofs.Words.{no_new-trans, refl, sum_by-cons, sym, true, true≢false, ◌*◌, ◌+◌, ◌/◌, ◌<◌, ◌==◌, ◌↔◌, ◌∙◌, ◌∷◌, ◌≡◌}
-use Rattle.bucket_table.proofs.Words.{◌≤◌}
+use Rattle.bucket_table.proofs.Words.{IsInRange, IsOver, IsPermutation, IsPermutation-refl, IsTrue, KeepsArrays, KeepsOpenTickets}
+use Rattle.bucket_table.proofs.Words.{KillsOnly, List, LosesNoUnit, None, Ok, Option, Result, Some, SpendsSome, Starts, TicketState}
+use Rattle.bucket_table.proofs.Words.{WorksUnit, WorksUnits, ℕ, ap, arith, bucket_at, cases_Bool, cases_eq, cond, entries_of, false, inl}
+use Rattle.bucket_table.proofs.Words.{inr, killed_flags, length, length_permutation, no_new-trans, refl, sum_by-cons, sym, true, true≢false}
+use Rattle.bucket_table.proofs.Words.{◌*◌, ◌+◌, ◌/◌, ◌<◌, ◌==◌, ◌↔◌, ◌∙◌, ◌∷◌, ◌≡◌, ◌≤◌}
+use Rattle.bucket_table.specs.Rehash.Covered.{IsUnitKilled}
+use Rattle.bucket_table.specs.declared.tickets.TicketError.{TicketError}
+use Rattle.bucket_table.specs.declared.tickets.TicketError.TheVariants.{NotDone, NotOpen}
 use Rattle.std.proofs.lemmas.List.Elements.{Contains-get_or}
 use Rattle.std.proofs.lemmas.List.Sorted.{sum_by-IsPermutation}
 use Rattle.std.specs.List.{count_by, sum_by}

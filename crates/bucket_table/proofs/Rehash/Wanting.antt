@@ -1,7 +1,8 @@
 -- Old buckets that didn't move, since memory was wanted.
-use Rattle.bucket_table.proofs.Words.{ArraysView, Bool, IsCovered, IsInRange, IsSource, IsUnmoved, Meets, RelocatesSome, SpendsSome}
-use Rattle.bucket_table.proofs.Words.{TicketState, WantsMemory, WorksUnits, ℕ, [], arith, bucket_at, cases_lt, false, inl, inr}
-use Rattle.bucket_table.proofs.Words.{killed_flags, length, refl, sym, true, ◌*◌, ◌+◌, ◌/◌, ◌<◌, ◌↔◌, ◌∙◌, ◌≡◌, ◌≤◌}
+use Rattle.bucket_table.proofs.Words.{ArraysView, Bool, IsInRange, IsSource, IsUnmoved, Meets, RelocatesSome, SpendsSome, TicketState}
+use Rattle.bucket_table.proofs.Words.{WantsMemory, WorksUnits, ℕ, [], arith, bucket_at, cases_lt, false, inl, inr, killed_flags, length}
+use Rattle.bucket_table.proofs.Words.{refl, sym, true, ◌*◌, ◌+◌, ◌/◌, ◌<◌, ◌↔◌, ◌∙◌, ◌≡◌, ◌≤◌}
+use Rattle.bucket_table.specs.Rehash.Covered.{IsCovered}
 use Rattle.bucket_table.specs.Rehash.Units.{NeedsNoMemory}
 use Rattle.bucket_table.proofs.Rehash.UnitSteps.{RelocatesRange}
 use Rattle.bucket_table.proofs.Rehash.Spending.{spends_few}

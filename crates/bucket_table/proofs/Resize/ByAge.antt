@@ -1,19 +1,20 @@
 -- The pairs of a bucket by age, and of a row of buckets: of the own slots each is taken once.
 use Rattle.bucket_table.proofs.Words.{ArraysView, BucketView, IsPermutation, IsPermutation-append_comm, IsPermutation-refl}
-use Rattle.bucket_table.proofs.Words.{IsPermutation-trans, List, Slot, ℕ, [], all_by_age, ap, append_assoc, arith, arrays_by_age, bucket_at}
-use Rattle.bucket_table.proofs.Words.{cases_eq, chain_pairs, drop, empty_bucket, eq-eqb, false, false≢true, filter_map-append, flattened}
-use Rattle.bucket_table.proofs.Words.{get_or, inl, inr, is_listed, length, list_any_at, live_pair, live_pairs, map, ne_eqb, order_without}
-use Rattle.bucket_table.proofs.Words.{own_backwards, own_by_age, own_left, pairs_in, pairs_in_all, pairs_of, refl, row_of, row_with}
-use Rattle.bucket_table.proofs.Words.{slot_at, slots_by_use, suc, sym, take, take_all, true, zero, ◌++◌, ◌+◌, ◌-◌, ◌<◌, ◌∙◌, ◌∷◌, ◌≡◌, ◌≢◌}
-use Rattle.bucket_table.proofs.Words.{◌≤◌}
+use Rattle.bucket_table.proofs.Words.{IsPermutation-trans, List, Slot, ℕ, [], ap, append_assoc, arith, bucket_at, cases_eq, drop}
+use Rattle.bucket_table.proofs.Words.{empty_bucket, eq-eqb, false, false≢true, filter_map-append, flattened, get_or, inl, inr, is_listed}
+use Rattle.bucket_table.proofs.Words.{length, live_pair, live_pairs, map, ne_eqb, order_without, pairs_in, pairs_in_all, pairs_of, refl}
+use Rattle.bucket_table.proofs.Words.{slot_at, suc, sym, take, take_all, true, zero, ◌++◌, ◌+◌, ◌-◌, ◌<◌, ◌∙◌, ◌∷◌, ◌≡◌, ◌≢◌, ◌≤◌}
+use Rattle.bucket_slots.specs.ByUse.{each_once, slots_by_use}
+use Rattle.bucket_table.specs.Resize.Renewing.{all_by_age, arrays_by_age, chain_pairs, own_backwards, own_by_age, pairs_by_age}
+use Rattle.bucket_table.specs.Walking.ByUse.{own_left}
+use Rattle.bucket_table.specs.Walking.Row.{row_of, row_with}
+use Rattle.std.proofs.lemmas.List.Folds.{list_any_at}
 use Rattle.std.proofs.lemmas.Bool.{or_parts}
 use Rattle.std.proofs.lemmas.List.{at_drop_more, drop-set-lt, map_more, reverse-append}
 use Rattle.std.proofs.lemmas.List.Sorted.{IsPermutation-append, IsPermutation-reverse}
 use Rattle.std.specs.List.{range_with_len}
 use Rattle.std.specs.Prelude.{reverse}
-use Rattle.bucket_slots.specs.ByUse.{each_once}
 use Rattle.bucket_slots.proofs.Recency.Orders.{eqb-same, is_listed-order_without, listed_apart}
-use Rattle.bucket_table.specs.Resize.Renewing.{pairs_by_age}
 use Rattle.bucket_table.proofs.Walking.Row.{row_of-row_with}
 use Rattle.bucket_table.proofs.Map.LookUps.{pairs_are}
 use Rattle.bucket_table.proofs.Walking.EachByUse.{other_listed, own_by_use}

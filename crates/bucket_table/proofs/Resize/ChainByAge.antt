@@ -1,9 +1,10 @@
 -- The pairs of a bucket's chain, behind its own slots: a walk that takes them out leaves these.
-use Rattle.bucket_table.proofs.Words.{Bool, BucketView, List, MovesToNext, None, Option, Place, Slot, Some, ℕ, ap, arith, block_at}
-use Rattle.bucket_table.proofs.Words.{chain_pairs, cond, drop, drop_all, false, false≢true, flattened, free, is_live, length, live_pair}
-use Rattle.bucket_table.proofs.Words.{live_pairs, nat_lt, option_or, pairs_ahead, refl, row_at, rows_with, slot_in, slots_without, suc, sym}
-use Rattle.bucket_table.proofs.Words.{true, zero, ◌++◌, ◌+◌, ◌<◌, ◌∙◌, ◌∷◌, ◌≡◌, ◌≤◌}
-use Rattle.std.specs.Option.{is_some, option_map}
+use Rattle.bucket_table.proofs.Words.{Bool, BucketView, List, MovesToNext, None, Option, Place, Slot, Some, ℕ, ap, arith, block_at, cond}
+use Rattle.bucket_table.proofs.Words.{drop, drop_all, false, false≢true, flattened, free, is_live, length, live_pair, live_pairs, nat_lt}
+use Rattle.bucket_table.proofs.Words.{pairs_ahead, refl, row_at, rows_with, slot_in, slots_without, suc, sym, true, zero, ◌++◌, ◌+◌, ◌<◌}
+use Rattle.bucket_table.proofs.Words.{◌∙◌, ◌∷◌, ◌≡◌, ◌≤◌}
+use Rattle.bucket_table.specs.Resize.Renewing.{chain_pairs}
+use Rattle.std.specs.Option.{is_some, option_map, option_or}
 use Rattle.bucket_slots.specs.BucketView.{first_from, place_or_null}
 use Rattle.bucket_slots.specs.Removing.{place_after, place_after_at, slots_without_at}
 use Rattle.bucket_slots.specs.Slots.{all_free}

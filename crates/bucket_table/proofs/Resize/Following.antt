@@ -1,7 +1,7 @@
 -- What arrays keep that are given up, pushed or made: their pairs, the bag of tickets and the law.
 use Rattle.bucket_table.proofs.Words.{All, All-nil, AreHome, ArePlaced, AreTwoArrays, ArraysView, BucketView, IsEntryHome, IsNewArray}
 use Rattle.bucket_table.proofs.Words.{IsPermutation-refl, IsVacant, Keeps, List, LosesNoUnit, ℕ, [], ap, append-nil, arith, bucket_at}
-use Rattle.bucket_table.proofs.Words.{empty_bucket, entries_among, false, false≢true, first_tickets, get_or_default, inl, length}
+use Rattle.bucket_table.proofs.Words.{empty_bucket, entries_among, false≢true, first_tickets, get_or_default, inl, length}
 use Rattle.bucket_table.proofs.Words.{marks_among, nil_from_length, pairs_in, refl, replicate, suc, sym, true, zero, ◌<◌, ◌∙◌, ◌≡◌}
 use Rattle.std.proofs.lemmas.List.{get_or-replicate}
 use Rattle.bucket_slots.proofs.MarksAfter.{no_new-front, no_new-rest}

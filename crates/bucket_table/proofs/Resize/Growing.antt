@@ -1,12 +1,13 @@
 -- When a writer looks into a growth, by what the code reads; and what the growth leaves.
-use Rattle.bucket_table.proofs.Words.{ArePlaced, ArraysView, Bool, BucketView, CACHE, Current, Err, Grows, IsHome, IsLocked, IsReady}
-use Rattle.bucket_table.proofs.Words.{IsTrue, Keeps, List, Ok, Old, Result, Side, TriesResize, WriterAsksGrowth, ℕ, [], ap, arith}
-use Rattle.bucket_table.proofs.Words.{bucket_at, buckets_on, cases_lt, counted, entries_among, entries_in, false, false≢true, inl, inr}
-use Rattle.bucket_table.proofs.Words.{length, length-append, length-entries_in, nil_from_length, pairs_in, suc, sym, true, zero, ◌*◌, ◌<◌}
-use Rattle.bucket_table.proofs.Words.{◌↔◌, ◌∙◌, ◌∷◌, ◌≡◌, ◌≤◌}
+use Rattle.bucket_table.proofs.Words.{ArePlaced, ArraysView, Bool, BucketView, CACHE, Current, Err, IsHome, IsLocked, IsTrue, Keeps, List}
+use Rattle.bucket_table.proofs.Words.{Ok, Old, Result, Side, ℕ, [], ap, arith, bucket_at, buckets_on, cases_lt, counted, entries_among}
+use Rattle.bucket_table.proofs.Words.{entries_in, false, false≢true, inl, inr, length, length-append, length-entries_in, nil_from_length}
+use Rattle.bucket_table.proofs.Words.{pairs_in, suc, sym, true, zero, ◌*◌, ◌<◌, ◌↔◌, ◌∙◌, ◌∷◌, ◌≡◌, ◌≤◌}
+use Rattle.bucket_table.specs.Map.Preparing.{IsReady}
+use Rattle.bucket_table.specs.Resize.Growing.{Grows, WriterAsksGrowth}
+use Rattle.bucket_table.specs.Resize.Resizing.{MakesArray, TriesResize}
 use Rattle.bucket_slots.specs.Sampling.{StartsSampling}
 use Rattle.bucket_table.specs.Resize.Asking.{AsksGrowth}
-use Rattle.bucket_table.specs.Resize.Resizing.{MakesArray}
 use Rattle.bucket_table.proofs.Views.Keeping.{keeps_same}
 use Rattle.bucket_table.proofs.Views.SideChanges.{locked_current}
 use Rattle.bucket_table.proofs.Resize.Following.{made_keeps, made_placed, new_vacant}

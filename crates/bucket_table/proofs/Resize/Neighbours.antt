@@ -1,8 +1,8 @@
 -- Whether the buckets near an index are crowded or deserted, by a sum that saturates.
-use Rattle.bucket_table.proofs.Words.{BucketView, List, ℕ, arith, counted, length, live_counts, min, small_within, subst, sym, ◌%◌, ◌*◌}
-use Rattle.bucket_table.proofs.Words.{◌+◌, ◌-◌, ◌^◌, ◌↔◌, ◌≡◌, ◌≤◌}
+use Rattle.bucket_table.proofs.Words.{BucketView, List, ℕ, arith, counted, length, live_counts, min, subst, sym, ◌%◌, ◌*◌, ◌+◌, ◌-◌, ◌^◌}
+use Rattle.bucket_table.proofs.Words.{◌↔◌, ◌≡◌, ◌≤◌}
+use Rattle.bucket_slots.proofs.ArrayNumbers.{small_is_one, small_within}
 use Rattle.std.proofs.Math.Nat.{mod-lt}
-use Rattle.bucket_slots.proofs.ArrayNumbers.{small_is_one}
 use Rattle.bucket_slots.specs.Sampling.{IsSmallSample}
 use Rattle.bucket_slots.specs.Sizing.{IsTooEmpty, IsTooFull}
 use Rattle.bucket_table.specs.Resize.Sampling.{IsCrowded, IsDeserted}

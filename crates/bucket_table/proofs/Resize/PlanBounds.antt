@@ -1,14 +1,15 @@
 -- What the code of a plan computes, in the words of the plan.
-use Rattle.bucket_table.proofs.Words.{All, BucketView, IsLargeSample, IsOptimalCapacity, IsPlan, IsPlanTo, List, Plan, Resize, ℕ, ap, arith}
+use Rattle.bucket_table.proofs.Words.{All, BucketView, IsLargeSample, IsOptimalCapacity, IsPlan, IsPlanTo, List, ℕ, ap, arith}
 use Rattle.bucket_table.proofs.Words.{last_estimate, length, live_counts, refl, slots_of, subst, sym, ⊎_elim, ◌*◌, ◌+◌, ◌-◌, ◌/◌, ◌<◌, ◌∙◌}
 use Rattle.bucket_table.proofs.Words.{◌≡◌, ◌≤◌}
+use Rattle.bucket_table.specs.declared.arrays.plan.Plan.{Plan}
+use Rattle.bucket_table.specs.declared.arrays.plan.Plan.TheVariants.{GiveUp, Keep, Resize}
 use Rattle.std.proofs.lemmas.Nat.{pow-add}
 use Rattle.std.specs.Int.{IsPowerOfTwo}
 use Rattle.bucket_slots.specs.Sampling.{full_sample}
 use Rattle.bucket_slots.specs.Sizing.{IsPowerIn, IsTooEmpty, IsTooFull}
 use Rattle.bucket_table.specs.Resize.ResizePlan.{middle_estimate}
 use Rattle.bucket_table.specs.Resize.Sampling.{estimate}
-use Rattle.bucket_table.specs.declared.arrays.plan.Plan.TheVariants.{GiveUp, Keep}
 use Rattle.bucket_table.proofs.Resize.Samples.{length-live_counts}
 
 -- an array's slots are a power of two

@@ -1,9 +1,9 @@
 -- Pairs put into a cache's array one after another: what is put after some was put after all.
-use Rattle.bucket_table.proofs.Words.{Awaits, Bool, BucketView, IsDistinct, IsDistinct-tail, IsEquivalence, IsPermutation}
+use Rattle.bucket_table.proofs.Words.{Bool, BucketView, IsDistinct, IsDistinct-tail, IsEquivalence, IsPermutation}
 use Rattle.bucket_table.proofs.Words.{IsPermutation-append_comm, IsPermutation-append_left, IsPermutation-append_right, IsPermutation-refl}
-use Rattle.bucket_table.proofs.Words.{IsPermutation-trans, List, Pours, TableView, ℕ, [], ap, append_assoc, arith, length, length-set}
-use Rattle.bucket_table.proofs.Words.{pairs_of, refl, subst, sym, ◌++◌, ◌∙◌, ◌∷◌, ◌≡◌}
-use Rattle.bucket_table.specs.Resize.Renewing.{PutsEach}
+use Rattle.bucket_table.proofs.Words.{IsPermutation-trans, List, TableView, ℕ, [], ap, append_assoc, arith, length, length-set, pairs_of}
+use Rattle.bucket_table.proofs.Words.{refl, subst, sym, ◌++◌, ◌∙◌, ◌∷◌, ◌≡◌}
+use Rattle.bucket_table.specs.Resize.Renewing.{Awaits, Pours, PutsEach}
 use Rattle.bucket_table.proofs.Map.MapSteps.{distinct_kept}
 use Rattle.bucket_table.proofs.Moves.CarriedPairs.{keys}
 

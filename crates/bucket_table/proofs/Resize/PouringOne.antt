@@ -1,15 +1,18 @@
 -- A pair put into a cache whose one array has the greatest length: none grows, and the pair is in its home.
-use Rattle.bucket_table.proofs.Words.{All-from_recursion, AllByRecursion, ArraysView, Awaits, Bool, BucketView, CACHE, Contains, Current}
-use Rattle.bucket_table.proofs.Words.{Err, Finds, FindsThen, Goes, Grows, IsEquivalence, IsHome, IsPermutation, IsPermutation-cons}
-use Rattle.bucket_table.proofs.Words.{IsPermutation-middle, IsPermutation-trans, List, MapState, None, NotInserted, Ok, Old, Option, Pours}
-use Rattle.bucket_table.proofs.Words.{Present, Puts, PutsAt, ResizesIf, Result, Side, Some, TableView, WriterAsksGrowth, ℕ, [], ap, arith}
-use Rattle.bucket_table.proofs.Words.{bucket_at, buckets_on, false, false≢true, inl, inr, length, map, pairs_of, refl, slots_left}
-use Rattle.bucket_table.proofs.Words.{slots_put, subst, sym, true, with_bucket, ◌%◌, ◌*◌, ◌++◌, ◌<◌, ◌∙◌, ◌∷◌, ◌≡◌}
+use Rattle.bucket_table.proofs.Words.{All-from_recursion, AllByRecursion, ArraysView, Bool, BucketView, CACHE, Contains, Current, Err}
+use Rattle.bucket_table.proofs.Words.{IsEquivalence, IsHome, IsPermutation, IsPermutation-cons, IsPermutation-middle, IsPermutation-trans}
+use Rattle.bucket_table.proofs.Words.{List, MapState, None, Ok, Old, Option, ResizesIf, Result, Side, Some, TableView, ℕ, [], ap, arith}
+use Rattle.bucket_table.proofs.Words.{bucket_at, buckets_on, false, false≢true, inl, inr, length, map, pairs_of, refl, subst, sym, true}
+use Rattle.bucket_table.proofs.Words.{with_bucket, ◌%◌, ◌*◌, ◌++◌, ◌<◌, ◌∙◌, ◌∷◌, ◌≡◌}
+use Rattle.bucket_table.specs.Map.Finding.{Finds, FindsThen, ReadiesThenGrows}
+use Rattle.bucket_table.specs.Map.Putting.{Goes, Puts, PutsAt, slots_left, slots_put}
+use Rattle.bucket_table.specs.Resize.Growing.{Grows, WriterAsksGrowth}
+use Rattle.bucket_table.specs.Resize.Renewing.{Awaits, Pours}
+use Rattle.bucket_table.specs.declared.hash_table.NotInserted.{NotInserted}
+use Rattle.bucket_table.specs.declared.hash_table.NotInserted.TheVariants.{Memory, Present}
 use Rattle.std.proofs.lemmas.List.Elements.{All-contains}
 use Rattle.std.proofs.lemmas.Map.Keys.{IsDistinct-head}
-use Rattle.bucket_table.specs.Map.Finding.{ReadiesThenGrows}
 use Rattle.bucket_table.specs.Map.MapState.{state_of}
-use Rattle.bucket_table.specs.declared.hash_table.NotInserted.TheVariants.{Memory}
 
 module _ {K V : Type 0} where
   -- no growth was done beside no old array

@@ -1,13 +1,13 @@
 -- A cache's new array, and what it is once all pairs are in.
-use Rattle.bucket_table.proofs.Words.{ArraysView, Awaits, Bool, IsDistinct, IsDistinct-IsPermutation, IsEquivalence, IsLengthFor}
-use Rattle.bucket_table.proofs.Words.{IsNewArray, IsOneMap, IsPermutation, IsPermutation-map, IsPermutation-trans, List, Pours, TableView}
-use Rattle.bucket_table.proofs.Words.{ℕ, [], ap, append-nil, arith, arrays_by_age, first_tickets, length, length_permutation, map}
-use Rattle.bucket_table.proofs.Words.{nil_from_length, pairs_of, refl, subst, sym, ◌*◌, ◌++◌, ◌-◌, ◌<◌, ◌^◌, ◌∙◌, ◌≡◌, ◌≤◌}
+use Rattle.bucket_table.proofs.Words.{ArraysView, Bool, IsDistinct, IsDistinct-IsPermutation, IsEquivalence, IsLengthFor, IsNewArray}
+use Rattle.bucket_table.proofs.Words.{IsOneMap, IsPermutation, IsPermutation-map, IsPermutation-trans, List, TableView, ℕ, [], ap}
+use Rattle.bucket_table.proofs.Words.{append-nil, arith, first_tickets, length, length_permutation, map, nil_from_length, pairs_of, refl}
+use Rattle.bucket_table.proofs.Words.{subst, sym, ◌*◌, ◌++◌, ◌<◌, ◌^◌, ◌∙◌, ◌≡◌, ◌≤◌}
+use Rattle.bucket_table.specs.Resize.Renewing.{Awaits, Pours, Renews, arrays_by_age}
 use Rattle.std.specs.Int.{IsPowerOfTwo}
 use Rattle.bucket_slots.specs.Sizing.{IsPowerIn}
 use Rattle.bucket_slots.proofs.Doublings.{double_fits}
 use Rattle.bucket_slots.proofs.PowersOfTwo.{exponent_le, power_parts}
-use Rattle.bucket_table.specs.Resize.Renewing.{Renews}
 use Rattle.bucket_table.specs.Resize.Resizing.{MakesArray}
 use Rattle.bucket_table.proofs.Map.MapKept.{keeps_pairs, nothing_kept, one_map_kept}
 use Rattle.bucket_table.proofs.Resize.ByAge.{each_by_age}

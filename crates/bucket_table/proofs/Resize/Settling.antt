@@ -1,9 +1,9 @@
 -- A resize after the minimum was set, and what it keeps of the map.
-use Rattle.bucket_table.proofs.Words.{ArePlaced, ArraysView, Bool, Err, IsEquivalence, IsOneMap, Keeps, MapState, Ok, ResizesIf, Result}
-use Rattle.bucket_table.proofs.Words.{TriesResize, ℕ, arith, cases_lt, false_from_ne_true, if◌then◌else◌, inl, inr, le-leb, leb-true}
-use Rattle.bucket_table.proofs.Words.{nat_le, pairs_of, refl, ◌+◌, ◌-◌, ◌<◌, ◌≡◌, ◌≤◌}
+use Rattle.bucket_table.proofs.Words.{ArePlaced, ArraysView, Bool, Err, IsEquivalence, IsOneMap, Keeps, MapState, Ok, ResizesIf, Result, ℕ}
+use Rattle.bucket_table.proofs.Words.{arith, cases_lt, false_from_ne_true, if◌then◌else◌, inl, inr, le-leb, leb-true, nat_le, pairs_of}
+use Rattle.bucket_table.proofs.Words.{refl, ◌+◌, ◌-◌, ◌<◌, ◌≡◌, ◌≤◌}
+use Rattle.bucket_table.specs.Resize.Resizing.{Releases, Reserves, Resizes, TriesResize, with_minimum}
 use Rattle.bucket_table.specs.Map.MapState.{LowersMinimum, RaisesMinimum, state_of}
-use Rattle.bucket_table.specs.Resize.Resizing.{Releases, Reserves, Resizes, with_minimum}
 use Rattle.bucket_table.proofs.Map.MapKept.{keeps_pairs, one_map_kept}
 
 module _ {K V : Type 0} where

@@ -1,8 +1,10 @@
 -- What a call of a script does to the map, after the calls of the table that it makes.
 use Rattle.bucket_table.proofs.Words.{AddsPair, AreArrays, ArraysView, Bool, ChangesValue, Contains-permutation, Err, IfErr}
 use Rattle.bucket_table.proofs.Words.{IsPermutation-cons, IsPermutation-refl, IsPermutation-sym, IsPermutation-trans, IsThere, IsTrue}
-use Rattle.bucket_table.proofs.Words.{KeepsPairs, List, MapState, Missing, Nothing, Result, ℕ, [], ap, arith, counted, counted_to, length}
-use Rattle.bucket_table.proofs.Words.{length_permutation, min, pairs_of, refl, subst, sym, ◌-◌, ◌<◌, ◌^◌, ◌↔◌, ◌∙◌, ◌∷◌, ◌≡◌}
+use Rattle.bucket_table.proofs.Words.{KeepsPairs, List, MapState, Result, ℕ, [], ap, arith, counted, counted_to, length, length_permutation}
+use Rattle.bucket_table.proofs.Words.{min, pairs_of, refl, subst, sym, ◌-◌, ◌<◌, ◌^◌, ◌↔◌, ◌∙◌, ◌∷◌, ◌≡◌}
+use Rattle.bucket_table.specs.declared.arrays.Missing.{Missing}
+use Rattle.bucket_table.specs.declared.arrays.Missing.TheVariants.{Nothing}
 use Rattle.bucket_table.specs.Map.Preparing.{IsMissing}
 use Rattle.bucket_table.proofs.Walking.CursorSteps.{no_map}
 

@@ -1,6 +1,6 @@
 -- A run goes on by one step.
-use Rattle.bucket_table.proofs.Words.{List, Run, ℕ, [], ap, get_or, length, refl, subst, sym, take, take_more, ◌++◌, ◌+◌, ◌<◌, ◌∙◌, ◌∷◌}
-use Rattle.bucket_table.proofs.Words.{◌≡◌}
+use Rattle.bucket_table.proofs.Words.{List, ℕ, [], ap, get_or, length, refl, subst, sym, take, take_more, ◌++◌, ◌+◌, ◌<◌, ◌∙◌, ◌∷◌, ◌≡◌}
+use Rattle.bucket_table.specs.Scripts.Runs.{Run}
 
 module _ {S C R : Type 0} (step : S → C → R → S → Type 0) where
   pub run_more : (first between last : S) (calls : List C) (replies : List R) (call : C) (reply : R)

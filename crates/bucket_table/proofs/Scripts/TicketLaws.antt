@@ -1,8 +1,11 @@
 -- An old array that went doesn't come back by calls of the rehash.
-use Rattle.bucket_table.proofs.Words.{All, Bool, Err, List, None, NotDone, NotOpen, Ok, Option, Result, Run, Some, Starts, TicketError}
-use Rattle.bucket_table.proofs.Words.{TicketStep, ℕ, [], arith, false, length_permutation, refl, suc, true, ◌∷◌, ◌≡◌}
+use Rattle.bucket_table.proofs.Words.{All, Bool, Err, List, None, Ok, Option, Result, Some, Starts, ℕ, [], arith, false, length_permutation}
+use Rattle.bucket_table.proofs.Words.{refl, suc, true, ◌∷◌, ◌≡◌}
+use Rattle.bucket_table.specs.Scripts.Runs.{Run}
+use Rattle.bucket_table.specs.Scripts.TicketCalls.{EndsTicket, IsTicketCall, TicketStep, no_rehash}
+use Rattle.bucket_table.specs.declared.tickets.TicketError.{TicketError}
+use Rattle.bucket_table.specs.declared.tickets.TicketError.TheVariants.{NotDone, NotOpen}
 use Rattle.bucket_table.specs.Rehash.Covered.{RehashState}
-use Rattle.bucket_table.specs.Scripts.TicketCalls.{EndsTicket, IsTicketCall, no_rehash}
 use Rattle.bucket_table.specs.declared.script.call.Call.{Call}
 use Rattle.bucket_table.specs.declared.script.call.Call.TheVariants.{End, Peek, Start, Work}
 use Rattle.bucket_table.specs.declared.script.reply.Reply.{Reply}

@@ -1,7 +1,8 @@
 -- Killed buckets, and buckets without pairs.
-use Rattle.bucket_table.proofs.Words.{All, AreAllKilled, BucketView, List, ℕ, [], ap, arith, bucket_at, empty_bucket, entries_among}
-use Rattle.bucket_table.proofs.Words.{entries_in, false, get_or, get_or-map, killed_flags, length, length-map, live_counts, map}
-use Rattle.bucket_table.proofs.Words.{map-entries_in, nil_from_length, pairs_in, refl, suc, true, ◌<◌, ◌∙◌, ◌∷◌, ◌≡◌}
+use Rattle.bucket_table.proofs.Words.{All, BucketView, List, ℕ, [], ap, arith, bucket_at, empty_bucket, entries_among, entries_in, false}
+use Rattle.bucket_table.proofs.Words.{get_or, get_or-map, killed_flags, length, length-map, live_counts, map, map-entries_in}
+use Rattle.bucket_table.proofs.Words.{nil_from_length, pairs_in, refl, suc, true, ◌<◌, ◌∙◌, ◌∷◌, ◌≡◌}
+use Rattle.bucket_table.specs.Rehash.Covered.{AreAllKilled}
 
 module _ {K V : Type 0} where
   none_mapped : (es : List ((K × V) × ℕ)) → map (λ (e : (K × V) × ℕ). e.0) es ≡ [] → es ≡ []

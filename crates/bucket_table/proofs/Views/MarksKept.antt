@@ -1,8 +1,8 @@
 -- Marks of arrays: that none is new where a bucket changes, where a bucket's pairs move on, and where an array comes or goes.
 use Rattle.bucket_table.proofs.Words.{ArraysView, BucketView, Current, HasNoNewMark, KeepsEntries, List, MarksBy, Old, Side, ℕ, [], arith}
 use Rattle.bucket_table.proofs.Words.{arrays_with, bucket_at, bucket_on, by-no_new, empty_bucket, get_or, length, marks_among, marks_in}
-use Rattle.bucket_table.proofs.Words.{marks_of, no_new-append, no_new-refl, no_new-trans, refl, set, suc, ◌++◌, ◌∷◌, ◌≡◌}
-use Rattle.bucket_slots.proofs.MarksAfter.{by-append, by-set, no_new-at, no_new-both, no_new-front, no_new-rest, no_new-set}
+use Rattle.bucket_table.proofs.Words.{marks_of, no_new-refl, no_new-trans, refl, set, suc, ◌++◌, ◌∷◌, ◌≡◌}
+use Rattle.bucket_slots.proofs.MarksAfter.{by-append, by-set, no_new-append, no_new-at, no_new-both, no_new-front, no_new-rest, no_new-set}
 
 -- lists of which each element has the same parts, have the same parts in all
 pub all_alike : {A B : Type 0} (parts : A → List B) (all : List A → List B) → all [] ≡ []

@@ -1,6 +1,7 @@
 -- The hasher, the capacities and the bag stay, one call after another.
-use Rattle.bucket_table.proofs.Words.{ArraysView, Bool, KeepsOpenTickets, KeepsPairs, KeepsSettings, MapState, RetainsAt, TableView, ℕ, ap}
-use Rattle.bucket_table.proofs.Words.{refl, ◌∙◌, ◌≡◌}
+use Rattle.bucket_table.proofs.Words.{ArraysView, Bool, KeepsOpenTickets, KeepsPairs, MapState, TableView, ℕ, ap, refl, ◌∙◌, ◌≡◌}
+use Rattle.bucket_table.specs.Views.Settings.{KeepsSettings}
+use Rattle.bucket_table.specs.Walking.Sweeps.{RetainsAt}
 use Rattle.bucket_table.specs.Map.MapState.{state_of}
 use Rattle.bucket_table.proofs.Map.MapKept.{hasher_kept}
 use Rattle.bucket_table.proofs.Views.Keeping.{bag_both, bag_same}

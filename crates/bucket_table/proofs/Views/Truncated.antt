@@ -1,7 +1,8 @@
 -- The law of one map, where it is known to hold and no proof of it is at hand: each of its parts has one proof at most, or is decided.
-use Rattle.bucket_table.proofs.Words.{AreHome, ArraysView, Bool, BucketView, Contains, Contains-append_right, IsOneMap, IsUnitKilled, List}
-use Rattle.bucket_table.proofs.Words.{ℕ, [], ap, arith, cases_eq, cases_lt, inl, inr, killed_flags, length, nil_from_length, refl, ⊎_elim}
-use Rattle.bucket_table.proofs.Words.{◌*◌, ◌<◌, ◌∷◌, ◌≡◌, ◌⊎◌}
+use Rattle.bucket_table.proofs.Words.{AreHome, ArraysView, Bool, BucketView, Contains, Contains-append_right, IsOneMap, List, ℕ, [], ap}
+use Rattle.bucket_table.proofs.Words.{arith, cases_eq, cases_lt, inl, inr, killed_flags, length, nil_from_length, refl, ⊎_elim, ◌*◌, ◌<◌}
+use Rattle.bucket_table.proofs.Words.{◌∷◌, ◌≡◌, ◌⊎◌}
+use Rattle.bucket_table.specs.Rehash.Covered.{IsUnitKilled}
 use Rattle.std.proofs.Math.Bool.{Bool-set}
 use Rattle.std.proofs.Math.Bridge.{le_prop}
 use Rattle.std.proofs.Math.Logic.{∥∥₁_elim}

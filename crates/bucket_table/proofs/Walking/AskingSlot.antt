@@ -1,6 +1,6 @@
 -- A function is asked for the pair in a live slot of a bucket, which stays with its value or goes.
 use Rattle.bucket_table.proofs.Words.{Bool, BucketView, IsBucketOf, List, None, Option, Place, Slot, Some, [], ap, bucket_with_value, false}
-use Rattle.bucket_table.proofs.Words.{false≢true, free, if◌then◌else◌, inl, inr, is_live, live, live_pair, not, pairs_ahead, pairs_in, refl}
+use Rattle.bucket_table.proofs.Words.{false≢true, if◌then◌else◌, inl, inr, is_live, live, live_pair, not, pairs_ahead, pairs_in, refl}
 use Rattle.bucket_table.proofs.Words.{same_Some, slot_in, slots_marked, slots_without, sym, true, true≢false, ℕ, ◌++◌, ◌==◌, ◌∙◌, ◌∷◌, ◌≡◌}
 use Rattle.bucket_table.proofs.Words.{◌≢◌}
 use mathlib.Core.Bool.{beq}

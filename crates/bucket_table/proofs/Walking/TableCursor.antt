@@ -1,6 +1,6 @@
 -- Cursors, as the table sees them.
 use Rattle.bucket_table.proofs.Words.{ArraysView, Bool, Current, Err, IsEquivalence, IsLocked, IsOneMap, KeepsArrays, Ok, Place, Result, []}
-use Rattle.bucket_table.proofs.Words.{ap, arith, bucket_on, entries_of, length, length_permutation, map, nil_from_length, pairs_of, ℕ, ◌≡◌}
+use Rattle.bucket_table.proofs.Words.{ap, arith, bucket_on, entries_of, length, length_permutation, nil_from_length, pairs_of, ℕ, ◌≡◌}
 use Rattle.bucket_table.proofs.Words.{◌≤◌}
 use Rattle.bucket_table.specs.Walking.Cursors.{IsFoundFrom, Passes, SetsOut}
 use Rattle.bucket_table.specs.Walking.Sweeps.{RetainsAt}

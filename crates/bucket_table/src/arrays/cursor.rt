@@ -182,7 +182,7 @@ impl<K: Eq + Drop, V: Drop, L: LruList + Drop, const TYPE: u8> Arrays<K, V, L, T
 
     /// Removes each pair of a current bucket for which `keep` returns false; in an index it becomes
     /// a tombstone. Returns how many.
-    pub(crate) fn retain_at<F: Fn(&K, &V) -> bool, G: Generation>(
+    pub(crate) fn retain_bucket<F: Fn(&K, &V) -> bool, G: Generation>(
         &mut self,
         index: usize,
         keep: &F,

@@ -1,16 +1,29 @@
-//! The pairs of the arrays by value, in the order of their view.
-ghost use Rattle.std.specs.Prelude.{◌≡◌, ◌≢◌, []};
-ghost use Rattle.std.specs.Iterator.{YieldsFirst, item_count};
+//! The pairs of the arrays by value, in the order of their view; or all of them dropped.
+ghost use Rattle.std.specs.Prelude.{◌≡◌, [], ◌≢◌};
 ghost use Rattle.bucket_table.specs.Rehash.State.{first_tickets};
+ghost use Rattle.std.specs.Iterator.{YieldsFirst, item_count};
 ghost use Rattle.bucket_table.specs.Views.ArraysView.{pairs_of};
 ghost use Rattle.bucket_table.specs.Walking.Drains.{FreesSlots};
 ghost use Rattle.bucket_table.specs.Walking.Row.{pairs_from, row_of};
 
 use super::Arrays;
+use crate::tickets::Tickets;
 use bucket_slots::bucket::{EntryPtr, INDEX};
 use bucket_slots::lru::LruList;
 use std::iter::FusedIterator;
 use std::marker::Model;
+
+impl<K: Drop, V: Drop, L: LruList + Drop, const TYPE: u8> Arrays<K, V, L, TYPE> {
+    /// Drops both arrays and the tickets.
+    pub(crate) fn clear(&mut self)
+        ensures { self.new
+            ≡ record self.old { current = []; linked = []; tickets = first_tickets 0 } }
+    {
+        self.current = None;
+        self.linked = None;
+        self.tickets = Tickets::none(self.alloc);
+    }
+}
 
 /// The pairs of a table by value that are left, those behind a place. Dropping it drops these pairs
 /// and the memory of the slots.

@@ -72,7 +72,7 @@ impl<K: Eq + Drop, V: Drop, H: KeyHash<K>, L: LruList + Drop, const TYPE: u8> Ha
         let mut place = self.first(&mut at);
         while let Ok(index) = place {
             self.sound();
-            let taken = self.retain_at(index, keep, generation);
+            let taken = self.retain_bucket(index, keep, generation);
             count = count.saturating_add(taken);
             place = self.first_past_bucket(index, &mut at);
         }
@@ -111,7 +111,7 @@ impl<K: Eq + Drop, V: Drop, H: KeyHash<K>, L: LruList + Drop, const TYPE: u8> Ha
     }
 
     /// Removes each pair of a current bucket for which `keep` returns false. Returns how many.
-    fn retain_at<F: Fn(&K, &V) -> bool, G: Generation>(
+    fn retain_bucket<F: Fn(&K, &V) -> bool, G: Generation>(
         &mut self,
         index: usize,
         keep: &F,
@@ -124,7 +124,7 @@ impl<K: Eq + Drop, V: Drop, H: KeyHash<K>, L: LruList + Drop, const TYPE: u8> Ha
             (AnswersBy (λ key value answer. F.post keep.now key value answer)) TYPE
             (G.epoch_of generation.now) self.old.arrays index result self.new.arrays }
     {
-        self.arrays.retain_at(index, keep, generation)
+        self.arrays.retain_bucket(index, keep, generation)
     }
 
     /// Moves a pointer to the first live pair, and locks that pair's bucket.

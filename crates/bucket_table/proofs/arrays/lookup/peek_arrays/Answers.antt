@@ -1,6 +1,6 @@
 use Rattle.bucket_table.proofs.Words.{refl}
 use Rattle.bucket_table.proofs.Map.LookUps.{second_home}
-use Rattle.bucket_table.proofs.arrays.peeking.peek_arrays.Goals as goal
+use Rattle.bucket_table.proofs.arrays.lookup.peek_arrays.Goals as goal
 
 pub returns-in-None-clause-first : goal.returns-in-None-clause-first
 returns-in-None-clause-first g c =

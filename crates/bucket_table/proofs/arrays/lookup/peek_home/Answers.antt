@@ -1,5 +1,5 @@
 use Rattle.bucket_table.proofs.Map.LookUps.{home_bucket-is}
-use Rattle.bucket_table.proofs.arrays.peeking.peek_home.Goals as goal
+use Rattle.bucket_table.proofs.arrays.lookup.peek_home.Goals as goal
 
 pub returns : goal.returns
 returns g c =

@@ -1,5 +1,5 @@
 use Rattle.bucket_table.proofs.Walking.Leaving.{gone_changed}
-use Rattle.bucket_table.proofs.arrays.Arrays.retain_at.Goals as goal
+use Rattle.bucket_table.proofs.arrays.Arrays.retain_bucket.Goals as goal
 
 pub returns : goal.returns
 returns g c =
