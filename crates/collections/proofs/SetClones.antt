@@ -1,6 +1,6 @@
 -- Clones of keys put into a set in turn, and what a set of clones of the keys of two others has.
-use Rattle.std.proofs.Common.{◌≡◌, ◌∙◌, ◌&&◌, ◌||◌, Bool, true, false, Some, cond, List, [], ◌∷◌, ◌++◌, map, is_some, not}
-use Rattle.std.proofs.Common.{ap, refl, subst, sym}
+use Rattle.std.proofs.Common.{◌≡◌, ◌∙◌, ◌&&◌, ◌||◌, Bool, true, false, Some, Option, Result, Ok, Err, IfOk, cond, List, [], ◌∷◌, ◌++◌}
+use Rattle.std.proofs.Common.{map, is_some, not, ap, refl, subst, sym}
 use Rattle.std.specs.Borrow.{Bor}
 use Rattle.std.specs.Cmp.{IsEquivalence}
 use Rattle.std.specs.Iterator.{Drains, YieldsFirstRef}
@@ -102,25 +102,34 @@ module _ {K H : Type 0} (eq : K → K → Bool) (laws : IsEquivalence eq) (IsKey
       ∙ ap (λ b. b || list_any (eq q) (keys_outside eq other own)) (any_outside q own other)
       ∙ ap (λ b. (contains eq own q && not (contains eq other q)) || b) (any_outside q other own)
 
-  module _ (IsHasher : H → H → Type 0) (own other first made : MapView K (Unit {0}) H) (empty : first ≡ empty_map first.hasher)
-      (hasher : IsHasher own.hasher first.hasher) where
-    -- a set that was empty, in which room was made, and into which clones of all keys of an iterator were put
-    pub joined : {S : Type 0} (ready : MapView K (Unit {0}) H) → Stays eq first ready → (rest : S → List K) (s : S) (keys : List K)
-        (joins : Bool → Bool → Bool) → rest s ≡ keys
-        → ((q : K) → list_any (eq q) keys ≡ joins (contains eq own q) (contains eq other q))
-        → PutsClonesFrom eq IsKey (YieldsFirstRef rest) s ready made → JoinsClones eq IsKey IsHasher own other keys joins made
-    joined ready stays rest s keys joins is any (lent, drains, put) =
-        let all : map (λ (k : Bor K). k.now) lent ≡ keys = drained rest s lent drains ∙ is in
-        let puts = stays_then_keys eq laws first ready made put.clones stays put.puts in
-        let kept : made.hasher ≡ first.hasher = puts.kept.hasher in
-        let begun : first ≡ empty_map made.hasher = empty ∙ ap (λ h. empty_map h) (sym kept) in
-        let into : PutsClones eq IsKey (empty_map made.hasher) keys made = record {
-          clones = put.clones;
-          one_each = subst (λ l. AllZip (IsClonedKey eq IsKey) l put.clones) all put.one_each;
-          puts = subst (λ m. PutsKeys eq m put.clones made) begun puts;
-        } in
+  -- clones put into a set that was made empty, and in which room was made
+  pub puts_into_new : {S : Type 0} (steps : S → Option (Bor K) → S → Type 0) (s : S) (first ready made : MapView K (Unit {0}) H)
+      → first ≡ empty_map first.hasher → Stays eq first ready → PutsClonesFrom eq IsKey steps s ready made
+      → PutsClonesFrom eq IsKey steps s (empty_map made.hasher) made
+  puts_into_new steps s first ready made empty stays (lent, drains, put) =
+      let puts = stays_then_keys eq laws first ready made put.clones stays put.puts in (
+        lent,
+        drains,
         record {
-          puts = into;
-          has = λ q. into.puts.has q ∙ any_clone eq laws IsKey q keys into.clones into.one_each ∙ any q;
-          hasher = subst (λ h. IsHasher own.hasher h) (sym kept) hasher;
-        }
+          clones = put.clones;
+          one_each = put.one_each;
+          puts = subst (λ m. PutsKeys eq m put.clones made) (empty ∙ ap (λ h. empty_map h) (sym puts.kept.hasher)) puts;
+        },
+      )
+
+  -- a new set into which clones of all keys of an iterator were put, if it was made
+  pub joined : {E S : Type 0} (IsHasher : H → H → Type 0) (own other : MapView K (Unit {0}) H) (result : Result (MapView K (Unit {0}) H) E)
+      (rest : S → List K) (s : S) (keys : List K) (joins : Bool → Bool → Bool) → rest s ≡ keys
+      → ((q : K) → list_any (eq q) keys ≡ joins (contains eq own q) (contains eq other q))
+      → IfOk result (λ made. PutsClonesFrom eq IsKey (YieldsFirstRef rest) s (empty_map made.hasher) made)
+      → IfOk result (λ made. IsHasher own.hasher made.hasher)
+      → IfOk result (λ made. JoinsClones eq IsKey IsHasher own other keys joins made)
+  joined IsHasher own other (Err e) rest s keys joins is any puts hasher = tt
+  joined IsHasher own other (Ok made) rest s keys joins is any (lent, drains, put) hasher =
+      let all : map (λ (k : Bor K). k.now) lent ≡ keys = drained rest s lent drains ∙ is in
+      let one_each = subst (λ l. AllZip (IsClonedKey eq IsKey) l put.clones) all put.one_each in
+      record {
+        puts = record { clones = put.clones; one_each = one_each; puts = put.puts };
+        has = λ q. put.puts.has q ∙ any_clone eq laws IsKey q keys put.clones one_each ∙ any q;
+        hasher = hasher;
+      }

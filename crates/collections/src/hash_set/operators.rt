@@ -5,6 +5,7 @@
 ghost use Rattle.std.specs.Prelude.{◌&&◌, ◌||◌, IfOk, OnOk, not};
 ghost use Rattle.std.specs.Iterator.{IsFinite};
 ghost use Rattle.collections.specs.Clones.{JoinsClones, PutsClonesFrom, PutsKeyClone};
+ghost use Rattle.collections.specs.Collecting.{empty_map};
 ghost use Rattle.collections.specs.Keys.{keys_of_either, keys_of_one, keys_outside, keys_within};
 
 use crate::hash_set::HashSet;
@@ -42,6 +43,27 @@ impl<K: Eq + Clone, H: KeyHash<K>> HashSet<K, H> {
         };
         Ok(())
     }
+
+    /// Returns a new set of clones of the keys that an iterator borrows.
+    fn clones_of<'k, I: Iterator<Item = &'k K>>(
+        &self,
+        len: usize,
+        keys: &mut I,
+    ) -> Result<Self, AllocError>
+    where
+        K: 'k,
+        H: Clone,
+        requires can { I.can_next keys.old }
+        requires finite { IsFinite (I.remaining keys.old) }
+        ensures clones { IfOk result (λ made. PutsClonesFrom K.eq K.is_clone I.next_gives
+            keys.old (empty_map made.hasher) made) }
+        ensures hasher { IfOk result (λ made. H.is_clone self.now.hasher made.hasher) }
+    {
+        let mut made = self.empty_like()?;
+        let _ = made.try_reserve(len);
+        made.put_clones(keys)?;
+        Ok(made)
+    }
 }
 
 /// `&own | &other` is a set of clones of the keys that either set has.
@@ -53,11 +75,8 @@ impl<'a, 'b, K: Eq + Clone, H: KeyHash<K> + Clone> BitOr<&'b HashSet<K, H>> for 
         (λ own other. own || other)) };
 
     fn bitor(self, other: &'b HashSet<K, H>) -> Result<HashSet<K, H>, AllocError> {
-        let mut made = self.empty_like()?;
-        let _ = made.try_reserve(self.len());
         let mut keys = self.union(other);
-        made.put_clones(&mut keys)?;
-        Ok(made)
+        self.clones_of(self.len(), &mut keys)
     }
 }
 
@@ -70,11 +89,8 @@ impl<'a, 'b, K: Eq + Clone, H: KeyHash<K> + Clone> BitAnd<&'b HashSet<K, H>> for
         (λ own other. own && other)) };
 
     fn bitand(self, other: &'b HashSet<K, H>) -> Result<HashSet<K, H>, AllocError> {
-        let mut made = self.empty_like()?;
-        let _ = made.try_reserve(self.len().min(other.len()));
         let mut keys = self.intersection(other);
-        made.put_clones(&mut keys)?;
-        Ok(made)
+        self.clones_of(self.len().min(other.len()), &mut keys)
     }
 }
 
@@ -87,11 +103,8 @@ impl<'a, 'b, K: Eq + Clone, H: KeyHash<K> + Clone> Sub<&'b HashSet<K, H>> for &'
         (λ own other. own && not other)) };
 
     fn sub(self, other: &'b HashSet<K, H>) -> Result<HashSet<K, H>, AllocError> {
-        let mut made = self.empty_like()?;
-        let _ = made.try_reserve(self.len());
         let mut keys = self.difference(other);
-        made.put_clones(&mut keys)?;
-        Ok(made)
+        self.clones_of(self.len(), &mut keys)
     }
 }
 
@@ -104,10 +117,7 @@ impl<'a, 'b, K: Eq + Clone, H: KeyHash<K> + Clone> BitXor<&'b HashSet<K, H>> for
         (λ own other. (own && not other) || (other && not own))) };
 
     fn bitxor(self, other: &'b HashSet<K, H>) -> Result<HashSet<K, H>, AllocError> {
-        let mut made = self.empty_like()?;
-        let _ = made.try_reserve(self.len());
         let mut keys = self.symmetric_difference(other);
-        made.put_clones(&mut keys)?;
-        Ok(made)
+        self.clones_of(self.len(), &mut keys)
     }
 }

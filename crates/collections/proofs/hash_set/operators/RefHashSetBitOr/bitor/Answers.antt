@@ -9,6 +9,5 @@ returns g c =
     let IsKey = g.K.Clone.is_clone in
     let own = c.args.self.now in
     let other = c.args.other.now in
-    joined eq laws IsKey g.H.Clone.is_clone own other c.in_ok-made.made c.put_clones.new.self c.in_ok-made.ensures.empty
-    c.in_ok-made.ensures.hasher _ c.try_reserve.ensures.stays (λ left. left) _ _ (λ a b. a || b) c.union-keys.ensures
-    (λ q. any_of_either eq laws IsKey q own other) c.in_ok-put_clones.ensures
+    joined eq laws IsKey g.H.Clone.is_clone own other _ (λ left. left) _ _ (λ a b. a || b) c.union-keys.ensures
+    (λ q. any_of_either eq laws IsKey q own other) c.clones_of.ensures.clones c.clones_of.ensures.hasher
