@@ -4,6 +4,7 @@ use super::check_same;
 use collections::hash_map::{Entry, HashMap};
 use collections::hash_set::HashSet;
 use std::alloc::{AllocError, Global};
+use std::process::Abort;
 use std::test::Fail;
 
 // The words of each length.
@@ -50,9 +51,15 @@ fn a_vector_is_the_default_of_its_place(rt: HostRuntime) -> Result<(), Fail> {
 fn a_struct_with_a_map_is_cloned(rt: HostRuntime) -> Result<(), Fail> {
     let mut all = by_length(rt.alloc(), &["Ann", "Bo"])?;
     let copy = all.clone()?;
-    note(&mut all, 3, 7)?;
-    check_same(&rt, words_of(&copy, 3), [0].as_slice(), "copy");
-    check_same(&rt, words_of(&all, 3), [0, 7].as_slice(), "own");
+    note_beside(&rt, &mut all, &copy)?;
+    Ok(())
+}
+
+// Notes a word of three letters, which its copy hasn't.
+fn note_beside(rt: &impl Abort, all: &mut ByLength, copy: &ByLength) -> Result<(), AllocError> {
+    note(all, 3, 7)?;
+    check_same(rt, words_of(copy, 3), [0].as_slice(), "copy");
+    check_same(rt, words_of(all, 3), [0, 7].as_slice(), "own");
     Ok(())
 }
 

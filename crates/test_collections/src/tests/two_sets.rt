@@ -133,13 +133,21 @@ pub(super) fn handed_over(alloc: Global, one: &Set, other: &Set, call: Call) -> 
 
 // The keys of a new set that has those of a call: none if allocation fails.
 fn collected(alloc: Global, one: &Set, other: &Set, call: Call) -> Vec<u64> {
-    let made: Result<HashSet<u64>, AllocError> = match call {
-        Call::ForEach => one.iter().copied().collect(alloc),
-        Call::Union => one.union(other).copied().collect(alloc),
-        Call::Intersection => one.intersection(other).copied().collect(alloc),
-        Call::Difference => one.difference(other).copied().collect(alloc),
-        Call::SymmetricDifference => one.symmetric_difference(other).copied().collect(alloc),
-    };
+    match call {
+        Call::ForEach => remade(alloc, one.iter()),
+        Call::Union => remade(alloc, one.union(other)),
+        Call::Intersection => remade(alloc, one.intersection(other)),
+        Call::Difference => remade(alloc, one.difference(other)),
+        Call::SymmetricDifference => remade(alloc, one.symmetric_difference(other)),
+    }
+}
+
+// The keys of a new set of those that an iterator yields: none if allocation fails.
+fn remade<'a, I: Iterator<Item = &'a u64>>(alloc: Global, keys: I) -> Vec<u64>
+    requires can { (state : I) → I.can_next state }
+    requires finite { IsFinite (I.remaining keys) }
+{
+    let made: Result<HashSet<u64>, AllocError> = keys.copied().collect(alloc);
     match made {
         Ok(set) => given(alloc, set.iter()),
         Err(_) => Vec::new(alloc),

@@ -28,11 +28,16 @@ const STEPS: &[Step] = steps! {
 #[test]
 fn words_are_looked_up_by_texts(rt: HostRuntime) -> Result<(), Fail> {
     let mut words = no_words(rt.alloc());
-    for (row, step) in STEPS.iter().enumerate() {
-        take(&rt, rt.alloc(), &mut words, ("words", row), step);
-    }
+    play(&rt, rt.alloc(), &mut words);
     check_keys(&rt, rt.alloc(), &words)?;
     Ok(())
+}
+
+// Takes the steps.
+fn play(rt: &impl Abort, alloc: Global, words: &mut Words) {
+    for (row, step) in STEPS.iter().enumerate() {
+        take(rt, alloc, words, ("words", row), step);
+    }
 }
 
 // The words that a map has, in order.
