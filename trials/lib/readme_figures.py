@@ -6,7 +6,7 @@ import sys
 from pathlib import Path
 
 # A row of the table, and how the sentence on ratios names it.
-ROWS = {"insert, grown": "an insertion takes", "hit": "a hit", "remove": "a removal"}
+ROWS = {"insert, grown": "an insertion takes", "hit": "a hit", "miss": "a miss", "remove": "a removal"}
 PAIRS = "1,000,000 pairs"
 # The name of the map that the ratios are to, in the head of the table.
 STD = "std"
