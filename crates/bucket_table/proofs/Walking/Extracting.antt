@@ -20,16 +20,16 @@ module _ {K V : Type 0} where
   Outcome kind answer later stay picked =
       ((answer ≡ false) × (stay ≡ later ∷ []) × (picked ≡ None)) ⊎ ((answer ≡ true) × (stay ≡ []) × (kind ≢ INDEX → picked ≡ Some later))
 
-  refused_by : (kind : ℕ) (answer : Bool) (later : K × V) (stay : List (K × V)) → kind ≢ INDEX → Outcome kind answer later stay None
+  refused_by : {kind : ℕ} {answer : Bool} {later : K × V} {stay : List (K × V)} → kind ≢ INDEX → Outcome kind answer later stay None
       → (answer ≡ false) × (stay ≡ later ∷ [])
-  refused_by kind answer later stay frees (inl (is, there, none)) = (is, there)
-  refused_by kind answer later stay frees (inr (is, gone, out)) = absurd (none-some later (out frees))
+  refused_by frees (inl (is, there, none)) = (is, there)
+  refused_by {later = later} frees (inr (is, gone, out)) = absurd (none-some later (out frees))
 
-  picked_by : (kind : ℕ) (answer : Bool) (later pair : K × V) (stay : List (K × V)) → kind ≢ INDEX
+  picked_by : {kind : ℕ} {answer : Bool} {later pair : K × V} {stay : List (K × V)} → kind ≢ INDEX
       → Outcome kind answer later stay (Some pair)
       → (answer ≡ true) × (stay ≡ []) × (later ≡ pair)
-  picked_by kind answer later pair stay frees (inl (is, there, none)) = absurd (none-some pair (sym none))
-  picked_by kind answer later pair stay frees (inr (is, gone, out)) = (is, gone, sym (same_Some pair later (out frees)))
+  picked_by {pair = pair} frees (inl (is, there, none)) = absurd (none-some pair (sym none))
+  picked_by {later = later} {pair = pair} frees (inr (is, gone, out)) = (is, gone, sym (same_Some pair later (out frees)))
 
 module _ {S K V : Type 0} (step : S → Bor K → MutBor V → Bool → MutBor V → S → Type 0) (kind : ℕ) where
   -- the function refused the pairs that are no more left, and they are there as it left them
@@ -43,8 +43,8 @@ module _ {S K V : Type 0} (step : S → Bor K → MutBor V → Bool → MutBor V
     pub others : KeepsShape old.arrays now.arrays
     pub left : AreLeftOf kind 0 (row_of old.arrays) (row_of now.arrays)
 
-  pub sets_out : (first : S) (old now : ExtractView K V) → now ≡ old → IsExtracting first old first now
-  sets_out first old now same = rw same (record {
+  pub sets_out : {first : S} {old now : ExtractView K V} → now ≡ old → IsExtracting first old first now
+  sets_out {old = old} same = rw same (record {
     kept = [];
     asked = λ picked last more rest extracts. extracts;
     stay = λ front is. is;
@@ -54,127 +54,124 @@ module _ {S K V : Type 0} (step : S → Bor K → MutBor V → Bool → MutBor V
   })
 
   -- no pair was left
-  pub picks_none : (first state : S) (old : ExtractView K V) (a : ArraysView K V) (from_index index : ℕ) (from to : Place)
-      → IsExtracting first old state (record { arrays = a; left = pairs_from (row_of a) from_index from })
-      → pairs_from (row_of a) from_index from ≡ [] → pairs_from (row_of a) index to ≡ []
-      → Extracts kind (AsksPair step) first old None (record { arrays = a; left = pairs_from (row_of a) index to }) state
-  picks_none first state old a from_index index from to amid none end = rw end (record {
+  pub picks_none : {first state : S} {old : ExtractView K V} {now : ArraysView K V} (from_index index : ℕ) (from to : Place)
+      → IsExtracting first old state (record { arrays = now; left = pairs_from (row_of now) from_index from })
+      → pairs_from (row_of now) from_index from ≡ [] → pairs_from (row_of now) index to ≡ []
+      → Extracts kind (AsksPair step) first old None (record { arrays = now; left = pairs_from (row_of now) index to }) state
+  picks_none {first} {state} {old} {now} from_index index from to amid none end = rw end (record {
     kept = amid.kept;
     asked = subst (λ kept. ExtractsNext (AsksPair step) first old.left None state kept []) (append-nil amid.kept)
         (amid.asked None state [] []
-        (subst (λ (ps : List (K × V)). ExtractsNext (AsksPair step) state ps None state [] []) (sym none) (refl, refl, refl, refl)));
-    stay = λ front were. amid.stay front were ∙ ap (λ ps. front ++ (amid.kept ++ ps)) none;
+        (subst (λ (left : List (K × V)). ExtractsNext (AsksPair step) state left None state [] []) (sym none) (refl, refl, refl, refl)));
+    stay = λ front were. amid.stay front were ∙ ap (λ left. front ++ (amid.kept ++ left)) none;
     one_map = amid.one_map;
     others = amid.others;
-    current = left_ahead kind 0 old.arrays.current old.arrays.linked a.current a.linked amid.others.current_len amid.left;
-    linked = left_behind kind 0 old.arrays.current old.arrays.linked a.current a.linked amid.others.current_len amid.left;
+    current = left_ahead kind 0 old.arrays.current old.arrays.linked now.current now.linked amid.others.current_len amid.left;
+    linked = left_behind kind 0 old.arrays.current old.arrays.linked now.current now.linked amid.others.current_len amid.left;
   })
 
   -- the first pair is refused, and then the others are asked for
-  one_more : (state last : S) (pair later : K × V) (left : List (K × V)) (picked : Option (K × V)) (final : S) (more rest : List (K × V))
+  one_more : {state last final : S} {pair later : K × V} {left more rest : List (K × V)} {picked : Option (K × V)}
       → AsksPair step state pair false last later → ExtractsNext (AsksPair step) last left picked final more rest
       → ExtractsNext (AsksPair step) state (pair ∷ left) picked final (later ∷ more) rest
-  one_more state last pair later left picked final more rest call extracts = (false, last, later, call, (more, extracts, refl))
+  one_more {last = last} {later = later} {more = more} call extracts = (false, last, later, call, (more, extracts, refl))
 
   -- a pair was asked for: what was behind it is left
-  pub after : (state last : S) (pair : K × V) (a new : ArraysView K V) (index : ℕ) (at to : Place) (picked : Option (K × V))
-      → index < length (row_of a) → ExtractsAt step kind state pair a index at picked new to last
-      → pairs_from (row_of new) index to ≡ pairs_from (row_of a) index at
-  after state last pair a new index at to picked within e =
-      ap (λ (c : ArraysView K V). pairs_from (row_of c) index to) e.new_is
-      ∙ ap (λ (bs : List (BucketView K V)). pairs_from bs index to) (row_of-row_with a index e.left)
-      ∙ same_left (row_of a) index within e.left at to e.slot.ahead
+  pub after : {state last : S} {pair : K × V} {now new : ArraysView K V} {index : ℕ} {at to : Place} {picked : Option (K × V)}
+      → index < length (row_of now) → ExtractsAt step kind state pair now index at picked new to last
+      → pairs_from (row_of new) index to ≡ pairs_from (row_of now) index at
+  after {now = now} {index = index} {at = at} {to = to} within ask =
+      ap (λ (arrays : ArraysView K V). pairs_from (row_of arrays) index to) ask.new_is
+      ∙ ap (λ (row : List (BucketView K V)). pairs_from row index to) (row_of-row_with now index ask.left)
+      ∙ same_left (row_of now) index within ask.left at to ask.slot.ahead
 
-  module _ (frees : kind ≢ INDEX) (first state last : S) (old : ExtractView K V) (a new : ArraysView K V) (from_index index : ℕ)
-      (from at to : Place)
-      (b : BucketView K V) (m : MovesOn (row_of a) from_index from b index at)
-      (amid : IsExtracting first old state (record { arrays = a; left = pairs_from (row_of a) from_index from }))
+  module _ (frees : kind ≢ INDEX) {first state : S} {old : ExtractView K V} {now : ArraysView K V} {from_index index : ℕ}
+      {from at : Place} {bucket : BucketView K V} (moves : MovesOn (row_of now) from_index from bucket index at)
+      (amid : IsExtracting first old state (record { arrays = now; left = pairs_from (row_of now) from_index from }))
     where
-      one_map_after : (picked : Option (K × V)) (e : ExtractsAt step kind state m.moves.pair a index at picked new to last)
-          (eq : K → K → Bool) → IsEquivalence eq → (hash : K → ℕ) → IsOneMap eq hash old.arrays → IsOneMap eq hash new
-      one_map_after picked e eq laws hash one =
-          rw e.new_is
-          (one_map_losing eq laws hash a index e.left (amid.one_map eq laws hash one) m.within
-          (has_pairs (bucket_at (row_of a) index) m.from at m.moves)
-          (gone_changed kind 0 e.slots.0 (bucket_at (row_of a) index) e.left e.slots.1).0)
+      abbrev Asked : S → ArraysView K V → Place → Option (K × V) → Type 0
+      Asked last new to picked = ExtractsAt step kind state moves.moves.pair now index at picked new to last
 
-      others_after : (picked : Option (K × V)) (e : ExtractsAt step kind state m.moves.pair a index at picked new to last)
-          → KeepsShape old.arrays new
-      others_after picked e = rw e.new_is (shape_both old.arrays a _ amid.others (shape_with a index e.left))
+      module _ {last : S} {new : ArraysView K V} {to : Place} where
+        one_map_after : {picked : Option (K × V)} → Asked last new to picked
+            → (eq : K → K → Bool) → IsEquivalence eq → (hash : K → ℕ) → IsOneMap eq hash old.arrays → IsOneMap eq hash new
+        one_map_after ask eq laws hash one =
+            rw ask.new_is
+            (one_map_losing laws hash (amid.one_map eq laws hash one) moves.within
+            (has_pairs (bucket_at (row_of now) index) moves.from at moves.moves)
+            (gone_changed kind 0 ask.slots.0 (bucket_at (row_of now) index) ask.left ask.slots.1).0)
 
-      left_after : (picked : Option (K × V)) (e : ExtractsAt step kind state m.moves.pair a index at picked new to last)
-          → AreLeftOf kind 0 (row_of old.arrays) (row_of new)
-      left_after picked e =
-          all_left_both kind 0 (row_of old.arrays) (row_of a) (row_of new) amid.left
-          (rw (e.new_is, row_of-row_with a index e.left) (all_left_at kind 0 (row_of a) index e.left m.within e.slots))
+        others_after : {picked : Option (K × V)} → Asked last new to picked → KeepsShape old.arrays new
+        others_after ask = rw ask.new_is (shape_both old.arrays now _ amid.others (shape_with now index ask.left))
 
-      stay_after : (picked : Option (K × V)) (e : ExtractsAt step kind state m.moves.pair a index at picked new to last)
-          (mid front : List (K × V)) → e.slot.stay ≡ mid
-          → pairs_of old.arrays ≡ front ++ old.left
-          → pairs_of new ≡ (front ++ amid.kept) ++ (mid ++ pairs_from (row_of new) index to)
-      stay_after picked e mid front mid_is were =
-          let behind = pairs_from (row_of a) index at in
-          let are = amid.stay front were ∙ sym (append_assoc front amid.kept _) ∙ ap (λ ps. (front ++ amid.kept) ++ ps) m.first in
-          ap pairs_of e.new_is ∙ sym (pairs_in_row (row_with a index e.left)) ∙ ap pairs_in_all (row_of-row_with a index e.left)
-          ∙ exchanges (row_of a) index m.within e.left m.from at m.moves.pair _ (front ++ amid.kept) m.moves.ahead e.slot.pairs
-          (pairs_in_row a ∙ are)
-          ∙ (λ j. (front ++ amid.kept) ++ (mid_is j ++ sym (after state last m.moves.pair a new index at to picked m.within e) j))
+        left_after : {picked : Option (K × V)} → Asked last new to picked → AreLeftOf kind 0 (row_of old.arrays) (row_of new)
+        left_after ask =
+            all_left_both kind 0 (row_of old.arrays) (row_of now) (row_of new) amid.left
+            (rw (ask.new_is, row_of-row_with now index ask.left) (all_left_at kind 0 (row_of now) index ask.left moves.within ask.slots))
 
-      -- fewer pairs are left
-      pub fewer : (picked : Option (K × V)) → ExtractsAt step kind state m.moves.pair a index at picked new to last
-          → length (pairs_from (row_of new) index to) < length (pairs_from (row_of a) from_index from)
-      fewer picked e =
-          omega (arith, ap length m.first, ap length (after state last m.moves.pair a new index at to picked m.within e))
+        stay_after : {picked : Option (K × V)} (ask : Asked last new to picked) {stay : List (K × V)} (front : List (K × V))
+            → ask.slot.stay ≡ stay
+            → pairs_of old.arrays ≡ front ++ old.left
+            → pairs_of new ≡ (front ++ amid.kept) ++ (stay ++ pairs_from (row_of new) index to)
+        stay_after ask front stay_is were =
+            let are = amid.stay front were ∙ sym (append_assoc front amid.kept _)
+            ∙ ap (λ left. (front ++ amid.kept) ++ left) moves.first in
+            ap pairs_of ask.new_is ∙ sym (pairs_in_row (row_with now index ask.left))
+            ∙ ap pairs_in_all (row_of-row_with now index ask.left)
+            ∙ exchanges (row_of now) index moves.within ask.left moves.from at moves.moves.pair _ (front ++ amid.kept) moves.moves.ahead
+            ask.slot.pairs (pairs_in_row now ∙ are)
+            ∙ (λ j. (front ++ amid.kept) ++ (stay_is j ++ sym (after moves.within ask) j))
 
-      -- the pair is refused
-      pub refuses : ExtractsAt step kind state m.moves.pair a index at None new to last
-          → IsExtracting first old last (record { arrays = new; left = pairs_from (row_of new) index to })
-      refuses e =
-          let by = refused_by kind e.slot.answer e.slot.later e.slot.stay frees e.slot.outcome in
-          let call : AsksPair step state m.moves.pair false last e.slot.later =
-          subst (λ b. AsksPair step state m.moves.pair b last e.slot.later) by.0 e.slot.asked in
-          record {
-            kept = amid.kept ++ e.slot.later ∷ [];
-            asked = λ picked final more rest extracts.
-                subst (λ kept. ExtractsNext (AsksPair step) first old.left picked final kept rest)
-                (sym (append_assoc amid.kept (e.slot.later ∷ []) more))
-                (amid.asked picked final (e.slot.later ∷ more) rest
-                (subst (λ left. ExtractsNext (AsksPair step) state left picked final (e.slot.later ∷ more) rest) (sym m.first)
-                (one_more state last m.moves.pair e.slot.later (pairs_from (row_of a) index at) picked final more rest call
-                (subst (λ left. ExtractsNext (AsksPair step) last left picked final more rest)
-                (after state last m.moves.pair a new index at to None m.within e) extracts))));
-            stay = λ front were.
-                stay_after None e (e.slot.later ∷ []) front by.1 were
-                ∙ append_assoc front amid.kept _
-                ∙ ap (λ ps. front ++ ps) (sym (append_assoc amid.kept (e.slot.later ∷ []) (pairs_from (row_of new) index to)));
-            one_map = one_map_after None e;
-            others = others_after None e;
-            left = left_after None e;
-          }
+        -- fewer pairs are left
+        pub fewer : {picked : Option (K × V)} → Asked last new to picked
+            → length (pairs_from (row_of new) index to) < length (pairs_from (row_of now) from_index from)
+        fewer ask = omega (arith, ap length moves.first, ap length (after moves.within ask))
 
-      -- or it is picked
-      pub picks : (pair : K × V) → ExtractsAt step kind state m.moves.pair a index at (Some pair) new to last
-          → Extracts kind (AsksPair step) first old (Some pair) (record { arrays = new; left = pairs_from (row_of new) index to }) last
-      picks pair e =
-          let by = picked_by kind e.slot.answer e.slot.later pair e.slot.stay frees e.slot.outcome in
-          let call : AsksPair step state m.moves.pair true last pair =
-          subst (λ p. AsksPair step state m.moves.pair true last p) by.2
-          (subst (λ b. AsksPair step state m.moves.pair b last e.slot.later) by.0 e.slot.asked) in
-          record {
-            kept = amid.kept;
-            asked = subst (λ kept. ExtractsNext (AsksPair step) first old.left (Some pair) last kept (pairs_from (row_of new) index to))
-                (append-nil amid.kept)
-                (amid.asked (Some pair) last [] (pairs_from (row_of new) index to)
-                (subst (λ left. ExtractsNext (AsksPair step) state left (Some pair) last [] (pairs_from (row_of new) index to))
-                (sym m.first)
-                (true, last, pair, call, (refl, refl, refl, after state last m.moves.pair a new index at to (Some pair) m.within e))));
-            stay = λ front were.
-                stay_after (Some pair) e [] front by.1 were
-                ∙ append_assoc front amid.kept _;
-            one_map = one_map_after (Some pair) e;
-            others = others_after (Some pair) e;
-            current = left_ahead kind 0 old.arrays.current old.arrays.linked new.current new.linked (others_after (Some pair) e).current_len
-                (left_after (Some pair) e);
-            linked = left_behind kind 0 old.arrays.current old.arrays.linked new.current new.linked (others_after (Some pair) e).current_len
-                (left_after (Some pair) e);
-          }
+        -- the pair is refused
+        pub refuses : Asked last new to None
+            → IsExtracting first old last (record { arrays = new; left = pairs_from (row_of new) index to })
+        refuses ask =
+            let by = refused_by frees ask.slot.outcome in
+            let call : AsksPair step state moves.moves.pair false last ask.slot.later =
+            subst (λ answer. AsksPair step state moves.moves.pair answer last ask.slot.later) by.0 ask.slot.asked in
+            record {
+              kept = amid.kept ++ ask.slot.later ∷ [];
+              asked = λ picked final more rest extracts.
+                  subst (λ kept. ExtractsNext (AsksPair step) first old.left picked final kept rest)
+                  (sym (append_assoc amid.kept (ask.slot.later ∷ []) more))
+                  (amid.asked picked final (ask.slot.later ∷ more) rest
+                  (subst (λ left. ExtractsNext (AsksPair step) state left picked final (ask.slot.later ∷ more) rest) (sym moves.first)
+                  (one_more call
+                  (subst (λ left. ExtractsNext (AsksPair step) last left picked final more rest) (after moves.within ask) extracts))));
+              stay = λ front were.
+                  stay_after ask front by.1 were
+                  ∙ append_assoc front amid.kept _
+                  ∙ ap (λ left. front ++ left) (sym (append_assoc amid.kept (ask.slot.later ∷ []) (pairs_from (row_of new) index to)));
+              one_map = one_map_after ask;
+              others = others_after ask;
+              left = left_after ask;
+            }
+
+        -- or it is picked
+        pub picks : {pair : K × V} → Asked last new to (Some pair)
+            → Extracts kind (AsksPair step) first old (Some pair) (record { arrays = new; left = pairs_from (row_of new) index to }) last
+        picks {pair = pair} ask =
+            let by = picked_by frees ask.slot.outcome in
+            let call : AsksPair step state moves.moves.pair true last pair =
+            subst (λ later. AsksPair step state moves.moves.pair true last later) by.2
+            (subst (λ answer. AsksPair step state moves.moves.pair answer last ask.slot.later) by.0 ask.slot.asked) in
+            record {
+              kept = amid.kept;
+              asked = subst (λ kept. ExtractsNext (AsksPair step) first old.left (Some pair) last kept (pairs_from (row_of new) index to))
+                  (append-nil amid.kept)
+                  (amid.asked (Some pair) last [] (pairs_from (row_of new) index to)
+                  (subst (λ left. ExtractsNext (AsksPair step) state left (Some pair) last [] (pairs_from (row_of new) index to))
+                  (sym moves.first) (true, last, pair, call, (refl, refl, refl, after moves.within ask))));
+              stay = λ front were. stay_after ask front by.1 were ∙ append_assoc front amid.kept _;
+              one_map = one_map_after ask;
+              others = others_after ask;
+              current = left_ahead kind 0 old.arrays.current old.arrays.linked new.current new.linked (others_after ask).current_len
+                  (left_after ask);
+              linked = left_behind kind 0 old.arrays.current old.arrays.linked new.current new.linked (others_after ask).current_len
+                  (left_after ask);
+            }

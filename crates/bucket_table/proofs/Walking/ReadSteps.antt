@@ -8,14 +8,14 @@ use Rattle.bucket_table.proofs.Walking.Visiting.{IsLentAt}
 module _ {S K V : Type 0} (reads : S → BucketView K V → Bool → S → Type 0) where
   -- a reader keeps all keys
   pub keeps_read : KeepsBuckets (reading reads)
-  keeps_read f g lent left flag more last alive call = subst (λ (b : BucketView K V). IsKeptBy lent b) (sym call.1)
+  keeps_read now next lent left flag more last alive call = subst (λ (b : BucketView K V). IsKeptBy lent b) (sym call.1)
       (record { gone = []; keys = IsPermutation-refl (keys_in lent); alive = alive })
 
   -- it is lent a bucket, and the arrays stay
-  pub read_at : (arrays : ArraysView K V) (index : ℕ) (now next : S) (flag more : Bool)
-      (seen : BucketView K V) → seen ≡ bucket_on arrays Current index → reads now seen more next
+  pub read_at : {arrays : ArraysView K V} (index : ℕ) {now next : S} {flag more : Bool}
+      {seen : BucketView K V} → seen ≡ bucket_on arrays Current index → reads now seen more next
       → IsLentAt S (reading reads) arrays index now flag more flag next arrays
-  read_at arrays index now next flag more seen is call = (
+  read_at {arrays = arrays} index {now = now} {next = next} {more = more} is call = (
     bucket_on arrays Current index,
     (
       subst (λ (b : BucketView K V). reads now b more next) is call,
@@ -27,9 +27,11 @@ module _ {S K V : Type 0} (reads : S → BucketView K V → Bool → S → Type 
 
 module _ {K V H : Type 0} where
   -- the table, seen as its parts
-  pub within_seen : (t s : TableView K V H) (index : ℕ) → t ≡ s → IsLocked s.arrays Current index → index < length t.arrays.current
-  within_seen t s index is locked = subst (λ (z : TableView K V H). index < length z.arrays.current) (sym is) locked.within
+  pub within_seen : {table seen : TableView K V H} {index : ℕ} → table ≡ seen → IsLocked seen.arrays Current index
+      → index < length table.arrays.current
+  within_seen {index = index} is locked = subst (λ (view : TableView K V H). index < length view.arrays.current) (sym is) locked.within
 
-  pub bucket_seen : (t s : TableView K V H) (index : ℕ) (b : BucketView K V) → t ≡ s
-      → b ≡ bucket_on t.arrays Current index → b ≡ bucket_on s.arrays Current index
-  bucket_seen t s index b is same = subst (λ (z : TableView K V H). b ≡ bucket_on z.arrays Current index) is same
+  pub bucket_seen : {table seen : TableView K V H} (index : ℕ) {bucket : BucketView K V} → table ≡ seen
+      → bucket ≡ bucket_on table.arrays Current index → bucket ≡ bucket_on seen.arrays Current index
+  bucket_seen index {bucket = bucket} is same =
+      subst (λ (view : TableView K V H). bucket ≡ bucket_on view.arrays Current index) is same

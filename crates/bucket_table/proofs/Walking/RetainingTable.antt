@@ -21,15 +21,16 @@ use Rattle.bucket_table.proofs.Walking.RetainingEach.{asked_both, asked_fewer}
 
 module _ {K V : Type 0} where
   -- a bucket with a pair may lose keys
-  pub one_map_losing : (eq : K → K → Bool) → IsEquivalence eq → (hash : K → ℕ) (a : ArraysView K V) (index : ℕ) (left : BucketView K V)
-      → IsOneMap eq hash a → index < length (row_of a) → (pairs_in (bucket_at (row_of a) index) ≡ [] → ⊥)
-      → LosesKeys (bucket_at (row_of a) index) left → IsOneMap eq hash (row_with a index left)
-  one_map_losing eq laws hash a index left one within some lost =
-      let on = stands a index within in
+  pub one_map_losing : {eq : K → K → Bool} → IsEquivalence eq → (hash : K → ℕ) {arrays : ArraysView K V} {index : ℕ} {left : BucketView K V}
+      → IsOneMap eq hash arrays → index < length (row_of arrays) → (pairs_in (bucket_at (row_of arrays) index) ≡ [] → ⊥)
+      → LosesKeys (bucket_at (row_of arrays) index) left → IsOneMap eq hash (row_with arrays index left)
+  one_map_losing {eq} laws hash {arrays} {index} {left} one within some lost =
+      let on = stands arrays index within in
       rw (on.with left)
-      (one_map_losing_on eq laws hash a on.side on.own left one
-      (changeable_filled hash a on.side on.own one.placed on.within (subst (λ b. pairs_in b ≡ [] → ⊥) (sym on.bucket) some))
-      (subst (λ b. LosesKeys b left) (sym on.bucket) lost))
+      (one_map_losing_on eq laws hash arrays on.side on.own left one
+      (changeable_filled hash arrays on.side on.own one.placed on.within
+      (subst (λ bucket. pairs_in bucket ≡ [] → ⊥) (sym on.bucket) some))
+      (subst (λ bucket. LosesKeys bucket left) (sym on.bucket) lost))
 
   pairs_in_all-more : (bs : List (BucketView K V)) (b : BucketView K V) → pairs_in_all (bs ++ b ∷ []) ≡ pairs_in_all bs ++ pairs_in b
   pairs_in_all-more bs b = all_joined bs (b ∷ []) ∙ ap (λ l. pairs_in_all bs ++ l) (append-nil (pairs_in b))
@@ -63,18 +64,18 @@ left_behind kind epoch xs ys us vs len all = record {
 
 module _ {S K V : Type 0} (step : S → Bor K → MutBor V → Bool → MutBor V → S → Type 0) (kind epoch : ℕ) where
   -- a bucket without a pair stays
-  retains_none : (first : S) (a : ArraysView K V) (index : ℕ) → index < length (row_of a) → pairs_in (bucket_at (row_of a) index) ≡ []
-      → RetainsIn step kind epoch first a index 0 a first
-  retains_none first a index within none =
-      let b = bucket_at (row_of a) index in
+  retains_none : {first : S} {now : ArraysView K V} {index : ℕ} → index < length (row_of now) → pairs_in (bucket_at (row_of now) index) ≡ []
+      → RetainsIn step kind epoch first now index 0 now first
+  retains_none {now = now} {index = index} within none =
+      let bucket = bucket_at (row_of now) index in
       record {
-        left = b;
+        left = bucket;
         retains = record {
           asked = rw none (refl, refl);
           counted = omega arith;
         };
-        slots = left_same kind epoch b;
-        new_is = sym (row_with-same a index within);
+        slots = left_same kind epoch bucket;
+        new_is = sym (row_with-same now index within);
       }
 
   -- the buckets of the row below an index were gone through, and the others are as they were
@@ -86,8 +87,8 @@ module _ {S K V : Type 0} (step : S → Bor K → MutBor V → Bool → MutBor V
     pub left : AreLeftOf kind epoch (row_of old) (row_of now)
     pub shape : KeepsShape old now
 
-  pub sets_out : (first : S) (old : ArraysView K V) → IsThrough first old first old 0 0
-  sets_out first old = record {
+  pub sets_out : {first : S} {old : ArraysView K V} → IsThrough first old first old 0 0
+  sets_out {old = old} = record {
     asked = (refl, refl);
     rest = refl;
     counted = omega arith;
@@ -96,51 +97,50 @@ module _ {S K V : Type 0} (step : S → Bor K → MutBor V → Bool → MutBor V
     shape = record { minimum = refl; maximum = refl; tickets = refl; current_len = refl; linked_len = refl };
   }
 
-  pub goes_on : (first state last : S) (old now new : ArraysView K V) (index count gone sum : ℕ) → index < length (row_of now)
+  pub goes_on : {first state last : S} {old now new : ArraysView K V} {index count gone sum : ℕ} → index < length (row_of now)
       → RetainsIn step kind epoch state now index gone new last → sum ≡ min (count + gone) (2 ^ 64 - 1)
       → IsThrough first old state now index count → IsThrough first old last new (index + 1) sum
-  goes_on first state last old now new index count gone sum within r sum_is amid =
+  goes_on {first} {state} {last} {old} {now} {new} {index} within bucket sum_is amid =
       let xs = row_of old in
       let ys = row_of now in
-      let set_is : row_of new ≡ set ys index r.left = ap row_of r.new_is ∙ row_of-row_with now index r.left in
+      let set_is : row_of new ≡ set ys index bucket.left = ap row_of bucket.new_is ∙ row_of-row_with now index bucket.left in
       let inside : index < length xs = omega (arith, within, amid.left.len) in
       let zero_more : index + 0 ≡ index = omega arith in
       let same : bucket_at ys index ≡ bucket_at xs index =
       sym (ap (λ k. bucket_at ys k) zero_more) ∙ sym (get_or-drop index ys 0 empty_bucket) ∙ ap (λ bs. bucket_at bs 0) amid.rest
       ∙ get_or-drop index xs 0 empty_bucket ∙ ap (λ k. bucket_at xs k) zero_more in
       let were = take_more xs index empty_bucket inside in
-      let are = ap (take (index + 1)) set_is ∙ take_more_set ys index r.left within in
+      let are = ap (take (index + 1)) set_is ∙ take_more_set ys index bucket.left within in
       let pairs_were = ap pairs_in_all were ∙ pairs_in_all-more (take index xs) (bucket_at xs index)
       ∙ ap (λ b. pairs_in_all (take index xs) ++ pairs_in b) (sym same) in
-      let pairs_are = ap pairs_in_all are ∙ pairs_in_all-more (take index ys) r.left in
+      let pairs_are = ap pairs_in_all are ∙ pairs_in_all-more (take index ys) bucket.left in
       let marks_were = ap marks_among were ∙ marks_among-more (take index xs) (bucket_at xs index)
       ∙ ap (λ b. marks_among (take index xs) ++ marks_in b) (sym same) in
-      let marks_are = ap marks_among are ∙ marks_among-more (take index ys) r.left in
+      let marks_are = ap marks_among are ∙ marks_among-more (take index ys) bucket.left in
       let less = asked_fewer step first state (pairs_in_all (take index xs)) (pairs_in_all (take index ys)) amid.asked in
       let long_were = ap length pairs_were ∙ length-append (pairs_in_all (take index xs)) (pairs_in (bucket_at ys index)) in
-      let long_are = ap length pairs_are ∙ length-append (pairs_in_all (take index ys)) (pairs_in r.left) in
+      let long_are = ap length pairs_are ∙ length-append (pairs_in_all (take index ys)) (pairs_in bucket.left) in
       record {
         asked = rw (pairs_were, pairs_are)
             (asked_both step first state last (pairs_in_all (take index xs)) (pairs_in_all (take index ys)) (pairs_in (bucket_at ys index))
-            (pairs_in r.left) amid.asked r.retains.asked);
-        rest = ap (drop (index + 1)) set_is ∙ drop-set-lt (index + 1) ys index r.left (omega arith) ∙ sym (drop-drop 1 index ys)
+            (pairs_in bucket.left) amid.asked bucket.retains.asked);
+        rest = ap (drop (index + 1)) set_is ∙ drop-set-lt (index + 1) ys index bucket.left (omega arith) ∙ sym (drop-drop 1 index ys)
             ∙ ap (λ bs. drop 1 bs) amid.rest ∙ drop-drop 1 index xs;
-        counted = omega (arith, less, long_were, long_are, r.retains.counted, sum_is, amid.counted);
+        counted = omega (arith, less, long_were, long_are, bucket.retains.counted, sum_is, amid.counted);
         marks = rw (marks_were, marks_are)
-            (by-append epoch (marks_among (take index xs)) (marks_in (bucket_at ys index)) (marks_among (take index ys)) (marks_in r.left)
-            amid.marks (gone_changed kind epoch r.slots.0 (bucket_at ys index) r.left r.slots.1).1);
+            (by-append epoch (marks_among (take index xs)) (marks_in (bucket_at ys index)) (marks_among (take index ys))
+            (marks_in bucket.left) amid.marks (gone_changed kind epoch bucket.slots.0 (bucket_at ys index) bucket.left bucket.slots.1).1);
         left = all_left_both kind epoch xs ys (row_of new) amid.left
-            (rw set_is (all_left_at kind epoch ys index r.left within r.slots));
-        shape = rw r.new_is (shape_both old now (row_with now index r.left) amid.shape (shape_with now index r.left));
+            (rw set_is (all_left_at kind epoch ys index bucket.left within bucket.slots));
+        shape = rw bucket.new_is (shape_both old now (row_with now index bucket.left) amid.shape (shape_with now index bucket.left));
       }
 
   -- a bucket without a pair is passed
-  pub passes : (first state : S) (old now : ArraysView K V) (index count : ℕ) → index < length (row_of now)
+  pub passes : {first state : S} {old now : ArraysView K V} {index count : ℕ} → index < length (row_of now)
       → pairs_in (bucket_at (row_of now) index) ≡ [] → IsThrough first old state now index count
       → IsThrough first old state now (index + 1) count
-  passes first state old now index count within none amid =
-      goes_on first state state old now now index count 0 count within (retains_none state now index within none)
-      (omega (arith, amid.counted)) amid
+  passes {count = count} within none amid =
+      goes_on {count = count} {sum = count} within (retains_none within none) (omega (arith, amid.counted)) amid
 
   -- in the end the whole row was
   pub record IsRetained (first : S) (old new : ArraysView K V) (count : ℕ) (last : S) : Type 0 where
@@ -151,18 +151,18 @@ module _ {S K V : Type 0} (step : S → Bor K → MutBor V → Bool → MutBor V
     pub current : AreLeftOf kind epoch old.current new.current
     pub linked : AreLeftOf kind epoch old.linked new.linked
 
-  pub ends : (first last : S) (old new : ArraysView K V) (index count : ℕ) → length (row_of new) ≤ index
-      → IsThrough first old last new index count → IsRetained first old new count last
-  ends first last old new index count past amid =
+  pub ends : {first last : S} {old new : ArraysView K V} {index count : ℕ} → IsThrough first old last new index count
+      → length (row_of new) ≤ index → IsRetained first old new count last
+  ends {first} {last} {old} {new} {index} amid past =
       let were = take_all index (row_of old) (omega (arith, past, amid.left.len)) in
       let are = take_all index (row_of new) past in
       let pairs_were = ap pairs_in_all were ∙ pairs_in_row old in
       let pairs_are = ap pairs_in_all are ∙ pairs_in_row new in
       record {
-        asked = subst (λ ps. RetainsEach step first ps (pairs_of new) last) pairs_were
-            (subst (λ ps. RetainsEach step first (pairs_in_all (take index (row_of old))) ps last) pairs_are amid.asked);
+        asked = subst (λ pairs. RetainsEach step first pairs (pairs_of new) last) pairs_were
+            (subst (λ pairs. RetainsEach step first (pairs_in_all (take index (row_of old))) pairs last) pairs_are amid.asked);
         counted = amid.counted ∙ (λ i. gone_len (pairs_were i) (pairs_are i));
-        marks = subst (λ ms. MarksBy epoch ms (marks_of new)) (ap marks_among were ∙ marks_in_row old)
+        marks = subst (λ marks. MarksBy epoch marks (marks_of new)) (ap marks_among were ∙ marks_in_row old)
             (subst (MarksBy epoch (marks_among (take index (row_of old)))) (ap marks_among are ∙ marks_in_row new) amid.marks);
         shape = amid.shape;
         current = left_ahead kind epoch old.current old.linked new.current new.linked amid.shape.current_len amid.left;

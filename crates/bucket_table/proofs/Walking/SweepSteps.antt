@@ -90,25 +90,25 @@ module _ {K V H : Type 0} (IsTest : (K × V → Bool) → Type 0) (hash : H → 
     pub alone : length old.arrays.linked ≡ 0 → count ≡ 0 → now.arrays ≡ old.arrays
     pub marks : MarksBy epoch (marks_of old.arrays) (marks_of now.arrays)
 
-  pub stands_first : (next : TableView K V H) (place : Result ℕ Missing) (at : Place)
+  pub stands_first : {next : TableView K V H} {place : Result ℕ Missing} {at : Place}
       → SetsOut kind hash old place at next → SweepStands next 0 place
-  stands_first next place at o = record {
-    settings = settings_kept kind old next o.map o.bag;
+  stands_first {next = next} {place = place} {at = at} out = record {
+    settings = settings_kept kind old next out.map out.bag;
     on = sweep_goes IsTest (hash old.hasher) old.arrays old.arrays next.arrays 0 0 place at
-        (sweep_begins IsTest (hash old.hasher) (pairs_of old.arrays)) o.map.pairs o.found (inr refl);
+        (sweep_begins IsTest (hash old.hasher) (pairs_of old.arrays)) out.map.pairs out.found (inr refl);
     course = record {
       first = record { place = place; arrays = next.arrays };
-      sets_out = o.passes;
+      sets_out = out.passes;
       indices = [];
       places = [];
       run = refl;
     };
-    alone = λ none zero_count. o.passes.alone none;
-    marks = by-no_new epoch (marks_of old.arrays) (marks_of next.arrays) o.marks;
+    alone = λ none zero_count. out.passes.alone none;
+    marks = by-no_new epoch (marks_of old.arrays) (marks_of next.arrays) out.marks;
   }
 
   -- a bucket was swept, and the cursor has left it
-  pub stands_next : (now visited next : TableView K V H) (count taken more index : ℕ) (here place : Result ℕ Missing) (at : Place)
+  pub stands_next : {now visited next : TableView K V H} {count taken more index : ℕ} {here place : Result ℕ Missing} (at : Place)
       → SweepStands now count here → here ≡ Ok index → ArePlaced (hash now.hasher) now.arrays
       → visited.hasher ≡ now.hasher → RetainsAt IsTest kind epoch now.arrays index taken visited.arrays
       → more ≡ min (count + taken) (2 ^ 64 - 1)
@@ -116,10 +116,11 @@ module _ {K V H : Type 0} (IsTest : (K × V → Bool) → Type 0) (hash : H → 
       → Leaves (hash visited.hasher) (bound_of (length visited.arrays.current) (index + 1)) place next.arrays at
       → HasNoNewMark (marks_of visited.arrays) (marks_of next.arrays)
       → ShrinksThenPasses (λ to. to) Current index visited.arrays place next.arrays → SweepStands next more place
-  stands_next now visited next count taken more index here place at s is law same retained counted kept bag leaves none_new departs =
-      let law' = subst (λ (h : H). ArePlaced (hash h) now.arrays) s.settings.hasher law in
-      let seen = settings_both old now visited s.settings (settings_swept IsTest now visited index taken same retained) in
-      let on = subst (λ (p : Result ℕ Missing). SweepsOn IsTest (hash old.hasher) old.arrays now.arrays count p) is s.on in
+  stands_next {now} {visited} {next} {count} {taken} {more} {index} {here} {place} at stands is law same retained counted kept bag
+      leaves none_new departs =
+      let law' = subst (λ (h : H). ArePlaced (hash h) now.arrays) stands.settings.hasher law in
+      let seen = settings_both old now visited stands.settings (settings_swept IsTest now visited index taken same retained) in
+      let on = subst (λ (place : Result ℕ Missing). SweepsOn IsTest (hash old.hasher) old.arrays now.arrays count place) is stands.on in
       let through = sweep_through IsTest (hash old.hasher) old.arrays now.arrays visited.arrays count taken more index law' on retained
       counted in
       let found = subst (λ (h : H). IsFoundFrom (hash h) (bound_of (length visited.arrays.current) (index + 1)) place next.arrays at)
@@ -129,12 +130,13 @@ module _ {K V H : Type 0} (IsTest : (K × V → Bool) → Type 0) (hash : H → 
         on = sweep_goes IsTest (hash old.hasher) old.arrays visited.arrays next.arrays more _ place at through kept.pairs found
             (inl leaves.1);
         course = record {
-          first = s.course.first;
-          sets_out = s.course.sets_out;
-          indices = s.course.indices ++ index ∷ [];
-          places = s.course.places ++ place ∷ [];
-          run = run_more (SweepsAt IsTest kind epoch) s.course.first (record { place = here; arrays = now.arrays })
-              (record { place = place; arrays = next.arrays }) s.course.indices s.course.places index place s.course.run (record {
+          first = stands.course.first;
+          sets_out = stands.course.sets_out;
+          indices = stands.course.indices ++ index ∷ [];
+          places = stands.course.places ++ place ∷ [];
+          run = run_more (SweepsAt IsTest kind epoch) stands.course.first (record { place = here; arrays = now.arrays })
+              (record { place = place; arrays = next.arrays }) stands.course.indices stands.course.places index place
+              stands.course.run (record {
                 here = is;
                 next = refl;
                 visited = visited.arrays;
@@ -144,28 +146,29 @@ module _ {K V H : Type 0} (IsTest : (K × V → Bool) → Type 0) (hash : H → 
               });
         };
         alone = λ none no_more.
-            let before = s.alone none (omega (arith, counted, no_more)) in
+            let before = stands.alone none (omega (arith, counted, no_more)) in
             let beside : length now.arrays.linked ≡ 0 = ap (λ (a : ArraysView K V). length a.linked) before ∙ none in
             course_alone IsTest now.arrays visited.arrays next.arrays index taken place on.2 retained departs beside
             (omega (arith, counted, no_more)) ∙ before;
         marks = by-trans epoch (marks_of old.arrays) (marks_of visited.arrays) (marks_of next.arrays)
-            (by-trans epoch (marks_of old.arrays) (marks_of now.arrays) (marks_of visited.arrays) s.marks
+            (by-trans epoch (marks_of old.arrays) (marks_of now.arrays) (marks_of visited.arrays) stands.marks
             (rw retained.new_is (by-bucket epoch now.arrays Current index retained.left retained.marks)))
             (by-no_new epoch (marks_of visited.arrays) (marks_of next.arrays) none_new);
       }
 
   -- fewer hashes are left then
-  pub fewer_hashes : (now : TableView K V H) (visited next : ArraysView K V) (count taken index : ℕ) (here place : Result ℕ Missing)
-      → SweepStands now count here → here ≡ Ok index → (0 < length now.arrays.current → IsLength (length now.arrays.current))
+  pub fewer_hashes : {now : TableView K V H} {visited : ArraysView K V} (next : ArraysView K V) {count taken index : ℕ}
+      {here : Result ℕ Missing} (place : Result ℕ Missing) → SweepStands now count here → here ≡ Ok index
+      → (0 < length now.arrays.current → IsLength (length now.arrays.current))
       → RetainsAt IsTest kind epoch now.arrays index taken visited → ReachesPast (bound_of (length visited.current) (index + 1)) place next
       → hashes_left (length next.current) place < hashes_left (length now.arrays.current) here
-  fewer_hashes now visited next count taken index here place s is long retained past =
+  fewer_hashes {now} next {count = count} {index = index} place stands is long retained past =
       let len : ℕ = length now.arrays.current in
-      let locked = (subst (λ (p : Result ℕ Missing). SweepsOn IsTest (hash old.hasher) old.arrays now.arrays count p) is s.on).0 in
-      let within : index < len = locked.within in
+      let on = subst (λ (place : Result ℕ Missing). SweepsOn IsTest (hash old.hasher) old.arrays now.arrays count place) is stands.on in
+      let within : index < len = on.0.within in
       let same = ap (λ (a : ArraysView K V). length a.current) retained.new_is ∙ length-set now.arrays.current index retained.left in
       let past' = subst (λ (n : ℕ). ReachesPast (bound_of n (index + 1)) place next) same past in
-      subst (λ (p : Result ℕ Missing). hashes_left (length next.current) place < hashes_left len p) (sym is)
+      subst (λ (here : Result ℕ Missing). hashes_left (length next.current) place < hashes_left len here) (sym is)
       (fewer (bound_of len (index + 1)) place (bound_fits len index (long (omega (arith, within))) within) past')
     where
       fewer : (high : ℕ) (found : Result ℕ Missing) → high ≤ 2 ^ 64 → ReachesPast high found next

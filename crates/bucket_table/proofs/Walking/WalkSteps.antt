@@ -29,56 +29,60 @@ pub record IsVisitOf {K V : Type 0} (hash : K → ℕ) (old : ArraysView K V) (i
 
 module _ {S B : Type 0} (step : S → B → Bool → Bool → B → Bool → S → Type 0) where
   -- one call more, where none before it stopped the walk
-  pub calls_more : (s t u : S) (flag next last : Bool) (vs : List (Visited B)) (v : Visited B)
-      → AreCalls step s flag vs t next → (HasStopped vs → ⊥)
-      → step t v.lent next v.more v.left last u → AreCalls step s flag (vs ++ v ∷ []) u last
-  calls_more s t u flag next last [] v so_far going call = subst (λ a. AreCalls step a flag (v ∷ []) u last) (sym so_far.0)
-      (subst (λ f. AreCalls step t f (v ∷ []) u last) (sym so_far.1) (u, last, call, (λ e. refl), (refl, refl)))
-  calls_more s t u flag next last (w ∷ vs) v so_far going call = (
+  pub calls_more : (first now new : S) (flag next last : Bool) (visits : List (Visited B)) (visit : Visited B)
+      → AreCalls step first flag visits now next → (HasStopped visits → ⊥)
+      → step now visit.lent next visit.more visit.left last new → AreCalls step first flag (visits ++ visit ∷ []) new last
+  calls_more first now new flag next last [] visit so_far going call =
+      subst (λ state. AreCalls step state flag (visit ∷ []) new last) (sym so_far.0)
+      (subst (λ flag. AreCalls step now flag (visit ∷ []) new last) (sym so_far.1) (new, last, call, (λ stopped. refl), (refl, refl)))
+  calls_more first now new flag next last (one ∷ visits) visit so_far going call = (
     so_far.0,
     so_far.1,
     so_far.2,
-    (λ e. absurd (going (inl e))),
-    calls_more so_far.0 t u so_far.1 next last vs v so_far.4 (λ h. going (inr h)) call,
+    (λ stopped. absurd (going (inl stopped))),
+    calls_more so_far.0 now new so_far.1 next last visits visit so_far.4 (λ stopped. going (inr stopped)) call,
   )
 
 module _ {B : Type 0} where
-  pub stopped_more : (vs : List (Visited B)) (v : Visited B) → v.more ≡ false → HasStopped (vs ++ v ∷ [])
-  stopped_more [] v e = inl e
-  stopped_more (w ∷ vs) v e = inr (stopped_more vs v e)
+  pub stopped_more : (visits : List (Visited B)) (visit : Visited B) → visit.more ≡ false → HasStopped (visits ++ visit ∷ [])
+  stopped_more [] visit is = inl is
+  stopped_more (one ∷ visits) visit is = inr (stopped_more visits visit is)
 
-  pub going_more : (vs : List (Visited B)) (v : Visited B) → (HasStopped vs → ⊥) → v.more ≡ true → HasStopped (vs ++ v ∷ []) → ⊥
-  going_more [] v going e (inl h) = let no : true ≡ false = sym e ∙ h in absurd cc
-  going_more [] v going e (inr h) = h
-  going_more (w ∷ vs) v going e (inl h) = going (inl h)
-  going_more (w ∷ vs) v going e (inr h) = going_more vs v (λ k. going (inr k)) e h
+  pub going_more : (visits : List (Visited B)) (visit : Visited B) → (HasStopped visits → ⊥) → visit.more ≡ true
+      → HasStopped (visits ++ visit ∷ []) → ⊥
+  going_more [] visit going is (inl stopped) = let no : true ≡ false = sym is ∙ stopped in absurd cc
+  going_more [] visit going is (inr stopped) = stopped
+  going_more (one ∷ visits) visit going is (inl stopped) = going (inl stopped)
+  going_more (one ∷ visits) visit going is (inr stopped) = going_more visits visit (λ later. going (inr later)) is stopped
 
 module _ {K V : Type 0} (hash : K → ℕ) (len : ℕ) where
   abbrev pub within : ℕ → ℕ → K × V → Bool
   within low high = has_home_in hash len low high
 
-  lent_more : (pairs : List (K × V)) (index : ℕ) (vs : List (Visited (BucketView K V))) (v : Visited (BucketView K V))
-      → AreLent hash len pairs index vs → IsPermutation (filter
-      (within (index + length vs) (index + length vs + 1)) pairs) (pairs_in v.lent) → AreLent hash len pairs index (vs ++ v ∷ [])
-  lent_more pairs index [] v so_far h =
-      let e : index + 0 ≡ index = omega arith in
-      (subst (λ (n : ℕ). IsPermutation (filter (within n (n + 1)) pairs) (pairs_in v.lent)) e h, tt)
-  lent_more pairs index (w ∷ vs) v so_far h =
-      let e : index + length (w ∷ vs) ≡ index + 1 + length vs = omega arith in (
+  lent_more : (pairs : List (K × V)) (index : ℕ) (visits : List (Visited (BucketView K V))) (visit : Visited (BucketView K V))
+      → AreLent hash len pairs index visits
+      → IsPermutation (filter (within (index + length visits) (index + length visits + 1)) pairs) (pairs_in visit.lent)
+      → AreLent hash len pairs index (visits ++ visit ∷ [])
+  lent_more pairs index [] visit so_far lent =
+      let here : index + 0 ≡ index = omega arith in
+      (subst (λ (at : ℕ). IsPermutation (filter (within at (at + 1)) pairs) (pairs_in visit.lent)) here lent, tt)
+  lent_more pairs index (one ∷ visits) visit so_far lent =
+      let here : index + length (one ∷ visits) ≡ index + 1 + length visits = omega arith in (
         so_far.0,
-        lent_more pairs (index + 1) vs v so_far.1 (subst (λ n. IsPermutation (filter (within n (n + 1)) pairs) (pairs_in v.lent)) e h),
+        lent_more pairs (index + 1) visits visit so_far.1
+            (subst (λ at. IsPermutation (filter (within at (at + 1)) pairs) (pairs_in visit.lent)) here lent),
       )
 
-  left_more : (vs : List (Visited (BucketView K V))) (v : Visited (BucketView K V))
-      → pairs_left (vs ++ v ∷ []) ≡ pairs_left vs ++ pairs_in v.left
-  left_more [] v = append-nil (pairs_in v.left)
-  left_more (w ∷ vs) v = ap (λ ps. pairs_in w.left ++ ps) (left_more vs v) ∙ sym
-      (append_assoc (pairs_in w.left) (pairs_left vs) (pairs_in v.left))
+  left_more : (visits : List (Visited (BucketView K V))) (visit : Visited (BucketView K V))
+      → pairs_left (visits ++ visit ∷ []) ≡ pairs_left visits ++ pairs_in visit.left
+  left_more [] visit = append-nil (pairs_in visit.left)
+  left_more (one ∷ visits) visit = ap (λ left. pairs_in one.left ++ left) (left_more visits visit) ∙ sym
+      (append_assoc (pairs_in one.left) (pairs_left visits) (pairs_in visit.left))
 
   -- a hash in a later interval is in none of the earlier ones
-  later : (start index : ℕ) (p : K × V) → within index (index + 1) p ≡ true → within start index p ≡ false
-  later start index p e =
-      let b = bounds _ _ (hash p.0) e in is_out _ _ (hash p.0) (λ low high. omega (arith, b.0, high))
+  later : (start index : ℕ) (pair : K × V) → within index (index + 1) pair ≡ true → within start index pair ≡ false
+  later start index pair is =
+      let within = bounds _ _ (hash pair.0) is in is_out _ _ (hash pair.0) (λ low high. omega (arith, within.0, high))
 
   module _ (start index : ℕ) (order : start ≤ index) where
     abbrev pub behind : K × V → Bool
@@ -91,75 +95,78 @@ module _ {K V : Type 0} (hash : K → ℕ) (len : ℕ) where
     through = within start (index + 1)
 
     abbrev pub outside : K × V → Bool
-    outside p = not (inside p)
+    outside pair = not (inside pair)
 
     abbrev pub ahead : K × V → Bool
-    ahead p = not (behind p)
+    ahead pair = not (behind pair)
 
     abbrev pub beyond : K × V → Bool
-    beyond p = not (through p)
+    beyond pair = not (through pair)
 
-    behind_through : (p : K × V) → behind p ≡ true → through p ≡ true
-    behind_through p e = let b = bounds _ _ (hash p.0) e in is_in _ _ (hash p.0) b.0
-        (omega (arith, b.1, next_multiple index (interval_width len)))
+    behind_through : (pair : K × V) → behind pair ≡ true → through pair ≡ true
+    behind_through pair is = let within = bounds _ _ (hash pair.0) is in is_in _ _ (hash pair.0) within.0
+        (omega (arith, within.1, next_multiple index (interval_width len)))
 
-    inside_through : (p : K × V) → inside p ≡ true → through p ≡ true
-    inside_through p e = let b = bounds _ _ (hash p.0) e in is_in _ _ (hash p.0)
-        (omega (arith, b.0, mul-le-mul_right (interval_width len) order)) b.1
+    inside_through : (pair : K × V) → inside pair ≡ true → through pair ≡ true
+    inside_through pair is = let within = bounds _ _ (hash pair.0) is in is_in _ _ (hash pair.0)
+        (omega (arith, within.0, mul-le-mul_right (interval_width len) order)) within.1
 
-    inside_ahead : (p : K × V) → inside p ≡ true → ahead p ≡ true
-    inside_ahead p e = not_from_false (behind p) (later start index p e)
+    inside_ahead : (pair : K × V) → inside pair ≡ true → ahead pair ≡ true
+    inside_ahead pair is = not_from_false (behind pair) (later start index pair is)
 
-    through_parts : (p : K × V) → behind p ≡ false → inside p ≡ false → through p ≡ false
-    through_parts p a b = is_out _ _ (hash p.0) (λ low high. elim (cases_lt (hash p.0) (index * interval_width len)) [
-      | inl less ↦ let passes : behind p ≡ true = is_in _ _ (hash p.0) low less in true≢false (sym passes ∙ a)
-      | inr more ↦ let passes : inside p ≡ true = is_in _ _ (hash p.0) more high in true≢false (sym passes ∙ b)
-    ])
+    through_parts : (pair : K × V) → behind pair ≡ false → inside pair ≡ false → through pair ≡ false
+    through_parts pair is_ahead is_outside = is_out _ _ (hash pair.0) (λ low high. elim
+        (cases_lt (hash pair.0) (index * interval_width len)) [
+          | inl less ↦ let passes : behind pair ≡ true = is_in _ _ (hash pair.0) low less in true≢false (sym passes ∙ is_ahead)
+          | inr more ↦ let passes : inside pair ≡ true = is_in _ _ (hash pair.0) more high in true≢false (sym passes ∙ is_outside)
+        ])
 
-    still_inside : (p : K × V) → (ahead p && inside p) ≡ inside p
-    still_inside p = elim (cases_Bool (inside p)) [
-      | inl in_it ↦ and_from (ahead p) (inside p) (inside_ahead p in_it) in_it ∙ sym in_it
-      | inr other ↦ and_right (ahead p) (inside p) other ∙ sym other
+    still_inside : (pair : K × V) → (ahead pair && inside pair) ≡ inside pair
+    still_inside pair = elim (cases_Bool (inside pair)) [
+      | inl in_it ↦ and_from (ahead pair) (inside pair) (inside_ahead pair in_it) in_it ∙ sym in_it
+      | inr other ↦ and_right (ahead pair) (inside pair) other ∙ sym other
     ]
 
-    still_ahead : (p : K × V) → (ahead p && outside p) ≡ beyond p
-    still_ahead p = elim (cases_Bool (behind p)) [
-      | inl back ↦ and_left (ahead p) (outside p) (not_from_true (behind p) back) ∙ sym (not_from_true (through p) (behind_through p back))
-      | inr other ↦ elim (cases_Bool (inside p)) [
-        | inl in_it ↦ and_right (ahead p) (outside p) (not_from_true (inside p) in_it) ∙ sym
-            (not_from_true (through p) (inside_through p in_it))
-        | inr out ↦ and_from (ahead p) (outside p) (not_from_false (behind p) other) (not_from_false (inside p) out) ∙ sym
-            (not_from_false (through p) (through_parts p other out))
+    still_ahead : (pair : K × V) → (ahead pair && outside pair) ≡ beyond pair
+    still_ahead pair = elim (cases_Bool (behind pair)) [
+      | inl back ↦ and_left (ahead pair) (outside pair) (not_from_true (behind pair) back) ∙ sym
+          (not_from_true (through pair) (behind_through pair back))
+      | inr other ↦ elim (cases_Bool (inside pair)) [
+        | inl in_it ↦ and_right (ahead pair) (outside pair) (not_from_true (inside pair) in_it) ∙ sym
+            (not_from_true (through pair) (inside_through pair in_it))
+        | inr out ↦ and_from (ahead pair) (outside pair) (not_from_false (behind pair) other) (not_from_false (inside pair) out) ∙ sym
+            (not_from_false (through pair) (through_parts pair other out))
       ]
     ]
 
-    not_inside : (p : K × V) → behind p ≡ true → inside p ≡ false
-    not_inside p e = false_from_ne_true (inside p) (λ yes. true≢false (sym e ∙ later start index p yes))
+    not_inside : (pair : K × V) → behind pair ≡ true → inside pair ≡ false
+    not_inside pair is = false_from_ne_true (inside pair) (λ yes. true≢false (sym is ∙ later start index pair yes))
 
-    module _ (old before done : List (K × V)) (homes : AllByRecursion (λ p. behind p ≡ true) done)
+    module _ (old before done : List (K × V)) (homes : AllByRecursion (λ pair. behind pair ≡ true) done)
         (so_far : IsPermutation (done ++ filter ahead old) before) where
       pub lent_now : {lent : List (K × V)} → IsPermutation (filter inside before) lent → IsPermutation (filter inside old) lent
       lent_now is =
           let same = filter-append inside done (filter ahead old)
-          ∙ ap (λ us. us ++ filter inside (filter ahead old)) (filter_none inside done (each_implies _ not_inside homes))
-          ∙ filter_filter ahead inside old ∙ filter_agree (λ p. ahead p && inside p) inside still_inside old in
-          IsPermutation-trans _ _ _ (subst (λ us. IsPermutation us (filter inside before)) same (IsPermutation-filter inside _ _ so_far)) is
+          ∙ ap (λ pairs. pairs ++ filter inside (filter ahead old)) (filter_none inside done (each_implies _ not_inside homes))
+          ∙ filter_filter ahead inside old ∙ filter_agree (λ pair. ahead pair && inside pair) inside still_inside old in
+          IsPermutation-trans _ _ _
+          (subst (λ pairs. IsPermutation pairs (filter inside before)) same (IsPermutation-filter inside _ _ so_far)) is
 
       pub map_now : {after : List (K × V)} (left : List (K × V)) → IsPermutation (left ++ filter outside before) after
           → IsPermutation ((done ++ left) ++ filter beyond old) after
       map_now left is =
-          let all = filter_all outside done (each_implies _ (λ p e. not_from_false (inside p) (not_inside p e)) homes) in
-          let same = filter-append outside done (filter ahead old) ∙ ap (λ us. us ++ filter outside (filter ahead old)) all
-          ∙ ap (λ us. done ++ us)
-          (filter_filter ahead outside old ∙ filter_agree (λ p. ahead p && outside p) beyond still_ahead old) in
-          let rest = subst (λ us. IsPermutation us (filter outside before)) same (IsPermutation-filter outside _ _ so_far) in
+          let all = filter_all outside done (each_implies _ (λ pair is. not_from_false (inside pair) (not_inside pair is)) homes) in
+          let same = filter-append outside done (filter ahead old) ∙ ap (λ pairs. pairs ++ filter outside (filter ahead old)) all
+          ∙ ap (λ pairs. done ++ pairs)
+          (filter_filter ahead outside old ∙ filter_agree (λ pair. ahead pair && outside pair) beyond still_ahead old) in
+          let rest = subst (λ pairs. IsPermutation pairs (filter outside before)) same (IsPermutation-filter outside _ _ so_far) in
           let front : IsPermutation ((done ++ left) ++ filter beyond old) (left ++ (done ++ filter beyond old)) =
           rw (append_assoc done left (filter beyond old)) (to_front done left (filter beyond old)) in
           IsPermutation-trans _ _ _ front (IsPermutation-trans _ _ _ (IsPermutation-append_right left _ _ rest) is)
 
-      pub homes_now : (left : List (K × V)) → AllByRecursion (λ p. inside p ≡ true) left
-          → AllByRecursion (λ p. through p ≡ true) (done ++ left)
-      homes_now left h = each_append _ _ _ (each_implies _ behind_through homes) (each_implies _ inside_through h)
+      pub homes_now : (left : List (K × V)) → AllByRecursion (λ pair. inside pair ≡ true) left
+          → AllByRecursion (λ pair. through pair ≡ true) (done ++ left)
+      homes_now left are = each_append _ _ _ (each_implies _ behind_through homes) (each_implies _ inside_through are)
 
 module _ {K V : Type 0} (hash : K → ℕ) where
   -- where a walk stands between two calls
@@ -171,11 +178,14 @@ module _ {K V : Type 0} (hash : K → ℕ) where
 
   pub walk_begins : (old : ArraysView K V) (start : ℕ) → IsPartOfWalk old start [] old
   walk_begins old start =
-      let away : K × V → Bool = λ p. not (has_home_in hash (length old.current) start (start + 0) p) in
+      let away : K × V → Bool = λ pair. not (has_home_in hash (length old.current) start (start + 0) pair) in
       let all = filter_all away (pairs_of old)
-      (each (λ p. not_from_false _ (is_out _ _ (hash p.0) (λ low high. omega (arith, low, high)))) (pairs_of old)) in
+      (each (λ pair. not_from_false _ (is_out _ _ (hash pair.0) (λ low high. omega (arith, low, high)))) (pairs_of old)) in
       record {
-        walk = record { lent = tt; pairs = subst (λ us. IsPermutation us (pairs_of old)) (sym all) (IsPermutation-refl (pairs_of old)) };
+        walk = record {
+          lent = tt;
+          pairs = subst (λ pairs. IsPermutation pairs (pairs_of old)) (sym all) (IsPermutation-refl (pairs_of old));
+        };
         len = refl;
         homes = tt;
       }
@@ -190,57 +200,58 @@ module _ {K V : Type 0} (hash : K → ℕ) where
   }
 
   pub walk_more : {old now new : ArraysView K V} {start index : ℕ} {visits : List (Visited (BucketView K V))}
-      (v : Visited (BucketView K V)) → index ≡ start + length visits → IsPartOfWalk old start visits now
-      → IsVisitOf hash now index v.lent v.left new → IsPartOfWalk old start (visits ++ v ∷ []) new
-  walk_more {old} {now} {new} {start} {index} {visits} v reached part visit =
-      let n : ℕ = length old.current in
+      (visit : Visited (BucketView K V)) → index ≡ start + length visits → IsPartOfWalk old start visits now
+      → IsVisitOf hash now index visit.lent visit.left new → IsPartOfWalk old start (visits ++ visit ∷ []) new
+  walk_more {old} {now} {new} {start} {index} {visits} visit reached part is =
+      let len : ℕ = length old.current in
       let end : ℕ = start + length visits in
       let order : start ≤ end = omega arith in
-      let lent = lent_now hash n start end order _ _ _ part.homes part.walk.pairs (rw (reached, part.len) at visit.lent_is) in
-      let pairs = map_now hash n start end order _ _ _ part.homes part.walk.pairs _ (rw (reached, part.len) at visit.pairs) in
-      let homes = homes_now hash n start end order _ _ _ part.homes part.walk.pairs _ (rw (reached, part.len) at visit.left_homes) in
-      let next : start + length (visits ++ v ∷ []) ≡ end + 1 = omega (arith, length_push visits v) in
-      let left = left_more hash n visits v in
+      let lent = lent_now hash len start end order _ _ _ part.homes part.walk.pairs (rw (reached, part.len) at is.lent_is) in
+      let pairs = map_now hash len start end order _ _ _ part.homes part.walk.pairs _ (rw (reached, part.len) at is.pairs) in
+      let homes = homes_now hash len start end order _ _ _ part.homes part.walk.pairs _ (rw (reached, part.len) at is.left_homes) in
+      let next : start + length (visits ++ visit ∷ []) ≡ end + 1 = omega (arith, length_push visits visit) in
+      let left = left_more hash len visits visit in
       record {
-        walk = record { lent = lent_more hash n (pairs_of old) start visits v part.walk.lent lent; pairs = rw (left, next) pairs };
-        len = visit.len ∙ part.len;
+        walk = record { lent = lent_more hash len (pairs_of old) start visits visit part.walk.lent lent; pairs = rw (left, next) pairs };
+        len = is.len ∙ part.len;
         homes = rw (left, next) homes;
       }
 
 module _ {K V : Type 0} where
-  moves_none : (a : ArraysView K V) → MovesOn a a
-  moves_none a = (kept_none a, λ none. refl)
+  moves_none : (arrays : ArraysView K V) → MovesOn arrays arrays
+  moves_none arrays = (kept_none arrays, λ none. refl)
 
-  moves_both : (a b c : ArraysView K V) → MovesOn a b → MovesOn b c → MovesOn a c
-  moves_both a b c first second = (
-    kept_both a b c first.0 second.0,
+  moves_both : {old now new : ArraysView K V} → MovesOn old now → MovesOn now new → MovesOn old new
+  moves_both {old} {now} {new} first second = (
+    kept_both old now new first.0 second.0,
     λ none. second.1 (rw (first.1 none) none) ∙ first.1 none,
   )
 
   -- old buckets move on once more
-  pub each_waits : (old now ready : ArraysView K V) (start : ℕ) (vs : List (Visited (BucketView K V))) → VisitsEach old start vs now
-      → MovesOn now ready → VisitsEach old start vs ready
-  each_waits old now ready start [] so_far moves = moves_both old now ready so_far moves
-  each_waits old now ready start (w ∷ vs) (first, moved, lent, rest) moves =
-      (first, moved, lent, each_waits (arrays_with first Current start w.left) now ready (start + 1) vs rest moves)
+  pub each_waits : (old now ready : ArraysView K V) (start : ℕ) (visits : List (Visited (BucketView K V)))
+      → VisitsEach old start visits now → MovesOn now ready → VisitsEach old start visits ready
+  each_waits old now ready start [] so_far moves = moves_both so_far moves
+  each_waits old now ready start (one ∷ visits) (first, moved, lent, rest) moves =
+      (first, moved, lent, each_waits (arrays_with first Current start one.left) now ready (start + 1) visits rest moves)
 
   -- one visit more
-  each_more : (old now ready : ArraysView K V) (start index : ℕ) (vs : List (Visited (BucketView K V))) (v : Visited (BucketView K V))
-      → index ≡ start + length vs → VisitsEach old start vs now → MovesOn now ready → v.lent ≡ bucket_on ready Current index
-      → VisitsEach old start (vs ++ v ∷ []) (arrays_with ready Current index v.left)
-  each_more old now ready start index [] v at so_far moves lent =
+  each_more : (old now ready : ArraysView K V) (start index : ℕ) (visits : List (Visited (BucketView K V)))
+      (visit : Visited (BucketView K V)) → index ≡ start + length visits → VisitsEach old start visits now → MovesOn now ready
+      → visit.lent ≡ bucket_on ready Current index
+      → VisitsEach old start (visits ++ visit ∷ []) (arrays_with ready Current index visit.left)
+  each_more old now ready start index [] visit at so_far moves lent =
       let here : index ≡ start = omega (arith, at) in
       rw here (
         ready,
-        moves_both old now ready so_far moves,
-        subst (λ (j : ℕ). v.lent ≡ bucket_on ready Current j) here lent,
-        moves_none (arrays_with ready Current start v.left),
+        moves_both so_far moves,
+        subst (λ (index : ℕ). visit.lent ≡ bucket_on ready Current index) here lent,
+        moves_none (arrays_with ready Current start visit.left),
       )
-  each_more old now ready start index (w ∷ vs) v at (first, moved, lent_first, rest) moves lent = (
+  each_more old now ready start index (one ∷ visits) visit at (first, moved, lent_first, rest) moves lent = (
     first,
     moved,
     lent_first,
-    each_more (arrays_with first Current start w.left) now ready (start + 1) index vs v (omega (arith, at)) rest moves lent,
+    each_more (arrays_with first Current start one.left) now ready (start + 1) index visits visit (omega (arith, at)) rest moves lent,
   )
 
 module _ {S K V : Type 0} (step : S → BucketView K V → Bool → Bool → BucketView K V → Bool → S → Type 0) (hash : K → ℕ) where
@@ -263,18 +274,18 @@ module _ {S K V : Type 0} (step : S → BucketView K V → Bool → Bool → Buc
     units = stands_still (IsInRange start (start + 0)) old;
     visited = moves_none old;
     reached = omega arith;
-    going = λ e h. h;
-    stopped = λ e. absurd (true≢false e);
+    going = λ is stopped. stopped;
+    stopped = λ is. absurd (true≢false is);
   }
 
   -- a bucket is made ready
   pub walk_units : {first now : S} {old table ready : ArraysView K V} {start index : ℕ} {flag more : Bool}
-      (w : WalksOn first now old start index flag more table) → WorksUnits 1 (λ home. home ≡ index) table ready
-      → WorksUnits (length w.visits + 1) (IsInRange start (start + (length w.visits + 1))) old ready
-  walk_units {old = old} {table = table} {ready = ready} {start = start} w unit =
-      units_both (IsInRange start (start + (length w.visits + 1))) (length w.visits) 1 old table ready
+      (walk : WalksOn first now old start index flag more table) → WorksUnits 1 (λ home. home ≡ index) table ready
+      → WorksUnits (length walk.visits + 1) (IsInRange start (start + (length walk.visits + 1))) old ready
+  walk_units {old = old} {table = table} {ready = ready} {start = start} walk unit =
+      units_both (IsInRange start (start + (length walk.visits + 1))) (length walk.visits) 1 old table ready
       (λ i one. (one.0, omega (arith, one.1)))
-      (λ i here. (omega (arith, here, w.reached), omega (arith, here, w.reached))) w.part.len w.units unit
+      (λ i here. (omega (arith, here, walk.reached), omega (arith, here, walk.reached))) walk.part.len walk.units unit
 
   -- and visited
   pub goes_on : {first now next : S} {old table ready : ArraysView K V} {start index : ℕ} {flag last more : Bool} (left : BucketView K V)
@@ -283,15 +294,15 @@ module _ {S K V : Type 0} (step : S → BucketView K V → Bool → Bool → Buc
       → step now (bucket_on ready Current index) flag more left last next
       → IsVisitOf hash ready index (bucket_on ready Current index) left (arrays_with ready Current index left)
       → WalksOn first next old start (index + 1) last more (arrays_with ready Current index left)
-  goes_on {first} {now} {next} {old} {table} {ready} {start} {index} {flag} {last} {more} left w kept unit waits call visit =
-      let v : Visited (BucketView K V) = record { lent = bucket_on ready Current index; left = left; more = more } in
+  goes_on {first} {now} {next} {old} {table} {ready} {start} {index} {flag} {last} {more} left walk kept unit waits call is =
+      let visit : Visited (BucketView K V) = record { lent = bucket_on ready Current index; left = left; more = more } in
       record {
-        visits = w.visits ++ v ∷ [];
-        calls = calls_more step first now next false flag last w.visits v w.calls (w.going refl) call;
-        part = walk_more hash v w.reached (walk_waits hash w.part kept) visit;
-        units = rw (length_push w.visits v) (units_as (length w.visits + 1) old ready _ (walk_units w unit) refl refl);
-        visited = each_more old table ready start index w.visits v w.reached w.visited (kept, waits) refl;
-        reached = omega (arith, w.reached, length_push w.visits v);
-        going = λ e. going_more w.visits v (w.going refl) e;
-        stopped = λ e. stopped_more w.visits v e;
+        visits = walk.visits ++ visit ∷ [];
+        calls = calls_more step first now next false flag last walk.visits visit walk.calls (walk.going refl) call;
+        part = walk_more hash visit walk.reached (walk_waits hash walk.part kept) is;
+        units = rw (length_push walk.visits visit) (units_as (length walk.visits + 1) old ready _ (walk_units walk unit) refl refl);
+        visited = each_more old table ready start index walk.visits visit walk.reached walk.visited (kept, waits) refl;
+        reached = omega (arith, walk.reached, length_push walk.visits visit);
+        going = going_more walk.visits visit (walk.going refl);
+        stopped = stopped_more walk.visits visit;
       }

@@ -7,7 +7,7 @@ use Rattle.bucket_table.proofs.hash_table.HashTable.retain.Goals as goal
 use Rattle.bucket_table.proofs.hash_table.HashTable.retain.Goals.{then-len-ne0, else-len-ne0}
 
 pub loop-bucket-init : goal.loop-bucket-init
-loop-bucket-init g c = (c.requires.callable, refl, sets_out _ g.row.TYPE _ _ _)
+loop-bucket-init g c = (c.requires.callable, refl, sets_out _ g.row.TYPE _)
 
 pub loop-bucket-preserved : goal.loop-bucket-preserved
 loop-bucket-preserved g c =
@@ -18,15 +18,15 @@ loop-bucket-preserved g c =
     let live = c.len.ensures ∙ ap (λ b. length (pairs_in b))
     (c.in-Some.ensures.bucket.1 ∙ ap (λ bs. bucket_at bs c.loop-bucket.index) row) in
     elim c.if-len-ne0.branch [
-      | then-len-ne0 w ↦ rw (w.self-is, w.keep-is, w.count-is) (
-        w.retain_nth-gone.ensures.again,
-        w.retain_nth-gone.ensures.hasher ∙ amid.1,
-        goes_on _ g.row.TYPE _ _ _ _ _ _ _ _ _ _ _ within w.retain_nth-gone.ensures.retained w.saturating_add-count.ensures amid.2,
+      | then-len-ne0 filled ↦ rw (filled.self-is, filled.keep-is, filled.count-is) (
+        filled.retain_nth-gone.ensures.again,
+        filled.retain_nth-gone.ensures.hasher ∙ amid.1,
+        goes_on _ g.row.TYPE _ within filled.retain_nth-gone.ensures.retained filled.saturating_add-count.ensures amid.2,
       )
-      | else-len-ne0 w ↦ rw (w.self-is, w.keep-is, w.count-is) (
+      | else-len-ne0 empty ↦ rw (empty.self-is, empty.keep-is, empty.count-is) (
         amid.0,
         amid.1,
-        passes _ g.row.TYPE _ _ _ _ _ _ _ within (nothing _ (sym live ∙ w.if-len-ne0.false)) amid.2,
+        passes _ g.row.TYPE _ within (nothing _ (sym live ∙ empty.if-len-ne0.false)) amid.2,
       )
     ]
 
@@ -42,7 +42,7 @@ all_retained : (g : given.Over) (c : goal.In_default g) → IsRetained
     c.loop-bucket.count c.loop-bucket.keep
 all_retained g c =
     let row = ap (λ t. length (row_of t.arrays)) c.self-in-loop-bucket.view_is in
-    ends _ g.row.TYPE _ _ _ _ _ c.loop-bucket.index _ (omega (arith, row, c.in_default.ensures.bucket)) c.loop-bucket.invariant.2
+    ends _ g.row.TYPE _ c.loop-bucket.invariant.2 (omega (arith, row, c.in_default.ensures.bucket))
 
 pub returns-clause-retained : goal.returns-clause-retained
 returns-clause-retained g c = (all_retained g c).asked

@@ -4,23 +4,18 @@ use Rattle.bucket_table.proofs.Map.OpenTickets.{bag_left}
 use Rattle.bucket_table.proofs.hash_table.HashTable.sweep.Goals as goal
 
 pub loop-place-init : goal.loop-place-init
-loop-place-init g c = stands_first _ g.H.KeyHash.hash_of g.row.TYPE _ c.args.self.now c.first-place.new.self c.first-place.result
-    c.first-place.new.at c.first-place.ensures.sets_out
+loop-place-init g c = stands_first _ g.H.KeyHash.hash_of g.row.TYPE _ c.args.self.now c.first-place.ensures.sets_out
 
 pub loop-place-preserved : goal.loop-place-preserved
 loop-place-preserved g c =
-    stands_next _ g.H.KeyHash.hash_of g.row.TYPE _ c.args.self.now c.loop-place.self c.retain_bucket-taken.new.self
-    c.first_past_bucket-place.new.self c.loop-place.count c.retain_bucket-taken.result c.saturating_add-count.result c.in-Ok.index
-    c.loop-place.place c.first_past_bucket-place.result c.first_past_bucket-place.new.at
-    c.loop-place.invariant c.in-Ok.is c.sound.ensures.one_map.placed c.retain_bucket-taken.ensures.hasher
-    c.retain_bucket-taken.ensures.retained
-    (search rules) c.first_past_bucket-place.ensures.map (bag_left _ _ _ _ _ _ c.first_past_bucket-place.ensures.departs)
-    c.first_past_bucket-place.ensures.leaves
-    c.first_past_bucket-place.ensures.marks c.first_past_bucket-place.ensures.departs
+    stands_next _ g.H.KeyHash.hash_of g.row.TYPE _ c.args.self.now c.first_past_bucket-place.new.at c.loop-place.invariant c.in-Ok.is
+    c.sound.ensures.one_map.placed c.retain_bucket-taken.ensures.hasher c.retain_bucket-taken.ensures.retained (search rules)
+    c.first_past_bucket-place.ensures.map (bag_left _ _ _ _ _ _ c.first_past_bucket-place.ensures.departs)
+    c.first_past_bucket-place.ensures.leaves c.first_past_bucket-place.ensures.marks
+    c.first_past_bucket-place.ensures.departs
 
 pub loop-place-smaller : goal.loop-place-smaller
 loop-place-smaller g c =
-    fewer_hashes _ g.H.KeyHash.hash_of g.row.TYPE _ c.args.self.now c.loop-place.self c.retain_bucket-taken.new.self.arrays
-    c.first_past_bucket-place.new.self.arrays c.loop-place.count c.retain_bucket-taken.result c.in-Ok.index c.loop-place.place
-    c.first_past_bucket-place.result
-    c.loop-place.invariant c.in-Ok.is c.sound.ensures.long c.retain_bucket-taken.ensures.retained c.first_past_bucket-place.ensures.leaves.1
+    fewer_hashes _ g.H.KeyHash.hash_of g.row.TYPE _ c.args.self.now c.first_past_bucket-place.new.self.arrays
+    c.first_past_bucket-place.result c.loop-place.invariant c.in-Ok.is c.sound.ensures.long
+    c.retain_bucket-taken.ensures.retained c.first_past_bucket-place.ensures.leaves.1

@@ -3,6 +3,5 @@ use Rattle.bucket_table.proofs.hash_table.HashTable.visit_at.Goals as goal
 
 pub invariant_of-self : goal.invariant_of-self
 invariant_of-self g c =
-    one_map_lent g.F.Visit.visits g.K.PartialEq.eq g.met.K.Eq.laws g.H.KeyHash.hash_of _ c.args.self.now c.args.index c.args.visitor.now
-    c.visit_at.new.visitor c.args.flag.now c.visit_at.result c.visit_at.new.flag c.visit_at.new.self c.self.view_is c.self.invariant
-    c.requires.locked c.requires.owes c.visit_at.ensures.visited
+    one_map_lent g.F.Visit.visits g.met.K.Eq.laws g.H.KeyHash.hash_of c.self.view_is c.self.invariant c.requires.locked c.requires.owes
+    c.visit_at.ensures.visited
