@@ -158,7 +158,7 @@ impl<K: Eq, V, H: KeyHash<K>> HashCache<K, V, H> {
     {
         self.room.learn();
         self.table.bounded();
-        self.table.len()
+        self.table.bounded_len()
     }
 
     /// Tests whether the cache has no pair.

@@ -119,7 +119,7 @@ impl<K: Eq, V, H: KeyHash<K>> HashIndex<K, V, H> {
 
     /// Returns how many pairs the index has, without tombstones, at most 2^64 - 1.
     ///
-    /// O(1); O(slots / 32) if there are more than slots. scc: `HashIndex::len`.
+    /// O(1). scc: `HashIndex::len`.
     pub fn len(&self) -> usize
         ensures { result ≡ min (map_len (map_of self.now)) (2 ^ 64 - 1) }
     {

@@ -116,7 +116,7 @@ impl<K: Eq, V, H: KeyHash<K>> HashMap<K, V, H> {
 
     /// Returns how many pairs the map has, at most 2^64 - 1.
     ///
-    /// O(1); O(slots / 32) if there are more than slots. scc: `HashMap::len`.
+    /// O(1). scc: `HashMap::len`.
     pub fn len(&self) -> usize
         ensures { result ≡ min (map_len self.now) (2 ^ 64 - 1) }
     {

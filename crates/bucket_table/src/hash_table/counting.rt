@@ -57,12 +57,23 @@ impl<K: Eq + Drop, V: Drop, H: KeyHash<K>, L: LruList + Drop, const TYPE: u8> Ha
 }
 
 impl<K: Eq, V, H: KeyHash<K>, L: LruList, const TYPE: u8> HashTable<K, V, H, L, TYPE> {
-    /// Returns how many pairs the map has, at most 2^64 - 1.
+    /// Returns how many pairs there are, at most 2^64 - 1.
     ///
     /// It changes nothing, works no unit, and counts the old array's pairs too.
     ///
-    /// O(1); O(buckets) if there are more pairs than own slots. scc: `HashMap::len`.
+    /// O(1). scc: `HashMap::len`.
+    #[inline(always)]
     pub fn len(&self) -> usize
+        ensures count { result ≡ counted_to (pairs_of self.now.arrays) }
+    {
+        self.count
+    }
+
+    /// Returns what `len` returns, and states that there are at most as many pairs as own slots,
+    /// and those in the chains.
+    ///
+    /// O(1); O(buckets) if there are more pairs than own slots.
+    pub fn bounded_len(&self) -> usize
         ensures count { result ≡ counted_to (pairs_of self.now.arrays) }
         ensures within { IsHeldBy (pairs_of self.now.arrays)
             (self.now.arrays.current ++ self.now.arrays.linked) }
