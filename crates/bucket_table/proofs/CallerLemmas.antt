@@ -4,8 +4,9 @@
 pub use Rattle.bucket_table.proofs.Map.AfterSearch.{own_kept}
 pub use Rattle.bucket_table.proofs.Map.LockedChanged.{table_same}
 pub use Rattle.bucket_table.proofs.Map.MapKept.{hasher_kept, keeps_pairs, state_found}
-pub use Rattle.bucket_table.proofs.Resize.Following.{made_keeps}
-pub use Rattle.bucket_table.proofs.Views.Keeping.{keeps_same, kept_none}
+pub use Rattle.bucket_table.proofs.Resize.Following.{made_keeps, pushed_keeps}
+pub use Rattle.bucket_table.proofs.Resize.Splitting.{split_old}
+pub use Rattle.bucket_table.proofs.Views.Keeping.{keeps_both, keeps_same, kept_none}
 -- a step of the map that follows one that keeps its pairs
 pub use Rattle.bucket_table.proofs.Map.Putting.{then_put}
 pub use Rattle.bucket_table.proofs.Scripts.CallSteps.{then_changed, there_before}

@@ -14,3 +14,4 @@ pub mod ChainByAge
 pub mod ByAge
 pub mod PouringOne
 pub mod Renewing
+pub mod Splitting

@@ -12,16 +12,17 @@ use Rattle.bucket_slots.specs.Homes.{IsHome}
 use Rattle.bucket_slots.specs.Removing.{slots_without}
 use Rattle.bucket_table.specs.Map.ByKey.{PreparesThen, ShrinksAt}
 use Rattle.bucket_table.specs.Map.Finding.{Finds}
+use Rattle.bucket_table.specs.Map.FindingGrown.{SplitsThen}
 use Rattle.bucket_table.specs.Map.Putting.{Goes, PutsAt, slots_left, slots_put}
-use Rattle.bucket_table.specs.Map.Refusing.{IsRefused}
+use Rattle.bucket_table.specs.Map.Preparing.{IsPrepared}
 use Rattle.bucket_table.specs.Resize.Growing.{Grows}
 use Rattle.bucket_table.specs.Resize.Resizing.{IsPushed}
 use Rattle.bucket_table.specs.Views.ArraysView.{ArraysView, TableView, pairs_of}
 use Rattle.bucket_table.specs.Views.Sides.{arrays_with, bucket_on, buckets_on}
 use Rattle.bucket_table.specs.declared.hash_table.NotInserted.{NotInserted}
 use Rattle.bucket_table.specs.declared.hash_table.NotInserted.TheVariants.{Memory, Present}
-use Rattle.bucket_table.proofs.CallerLemmas.{kept_none}
-use Rattle.collections.specs.Orders.{Leaves, LeavesArray, LeavesPlace, PutsOrKeeps, ReplacesBucket}
+use Rattle.bucket_table.proofs.CallerLemmas.{keeps_both, kept_none, pushed_keeps, split_old}
+use Rattle.collections.specs.Orders.{Leaves, LeavesArray, LeavesPlace, PutsInHome, PutsOrKeeps, ReplacesBucket}
 use Rattle.collections.proofs.Found.{IsFound, found, ready_keeps, same_buckets}
 use Rattle.collections.proofs.Moving.{arrays_stay, moves_beside, moves_on, prepared_moves}
 use Rattle.collections.proofs.Shrinking.{none_left, removed_ends}
@@ -48,14 +49,16 @@ module _ {K V : Type 0} where
       grown Current same = inl same
 
 module _ {K V H : Type 0} (hash : ℕ) (old new : TableView K V H) where
+  -- a table that is only prepared
+  pub prepared_leaves : (between : TableView K V H) → IsPrepared 67 hash old between → LeavesArray old.arrays between.arrays
+  prepared_leaves between prepared = record {
+    between = between.arrays;
+    carried = λ some. prepared_moves hash old between prepared;
+    alone = λ none stands. ap (λ (t : TableView K V H). t.arrays) (prepared.alone none);
+    left = inl refl;
+  }
+
   module _ (eq : K → K → Bool) (laws : IsEquivalence eq) (distinct : IsDistinct eq (keys_of (pairs_of old.arrays))) where
-    none_leaves : (between : TableView K V H) → IsRefused 67 hash old between → LeavesArray old.arrays between.arrays
-    none_leaves between refused = record {
-      between = between.arrays;
-      carried = λ some. prepared_moves hash old between refused.prepared;
-      alone = λ none stands. ap (λ (t : TableView K V H). t.arrays) (refused.prepared.alone none);
-      left = inl refl;
-    }
 
     -- what the table puts where it found a bucket
     pub puts_home : (pair : K × V) (r : Result (Option (K × V)) (NotInserted K V)) (answer : Result (Side × ℕ) (Unit {0}))
@@ -67,7 +70,9 @@ module _ {K V H : Type 0} (hash : ℕ) (old new : TableView K V H) where
         let here : bucket_on between.arrays at.0 at.1 ≡ bucket_at is.ready.current at.1 = ap (λ bs. bucket_at bs at.1) same in
         let after : BucketView K V → BucketView K V = λ bucket. slots_put true (slots_left bucket went) pair (hash % 256) in
         record {
+          ready = is.ready;
           between = is.ready;
+          split = inl refl;
           map = arrays_stay eq laws old distinct is.ready (ready_keeps old.arrays at.1 is.ready is.makes);
           carried = moves_beside old.arrays is.ready is.makes.beside;
           first = is.makes.first;
@@ -82,9 +87,46 @@ module _ {K V H : Type 0} (hash : ℕ) (old new : TableView K V H) where
     puts_home pair (Err (Present k v)) (Ok at) between finds same =
         let is = found 67 hash old.arrays at.0 at.1 between.arrays (inl finds.found) in
         rw same (found_leaves old.arrays at.0 at.1 between.arrays is)
-    puts_home pair (Err (Present k v)) (Err e) between finds same = rw same (none_leaves between finds)
+    puts_home pair (Err (Present k v)) (Err e) between finds same = rw same (prepared_leaves between finds.prepared)
     puts_home pair (Err (Memory k v)) (Ok at) between finds none = absurd none
-    puts_home pair (Err (Memory k v)) (Err e) between finds same = rw same (none_leaves between finds)
+    puts_home pair (Err (Memory k v)) (Err e) between finds same = rw same (prepared_leaves between finds.prepared)
+
+    -- what the table puts where the slots were doubled first
+    pub puts_split : (pair : K × V) (went : Option (K × V))
+        → SplitsThen 67 hash old (λ answer between. PutsAt true pair (hash % 256) between (Ok went) answer new)
+        → PutsInHome eq pair hash went old new.arrays
+    puts_split pair went x =
+        let doubled = x.doubled.arrays in
+        let is = found 67 hash doubled x.side x.index x.between.arrays (inl x.found.found) in
+        let same = same_buckets x.side is.ready x.between.arrays is.grown in
+        let here : bucket_on x.between.arrays x.side x.index ≡ bucket_at is.ready.current x.index = ap (λ bs. bucket_at bs x.index) same in
+        let after : BucketView K V → BucketView K V = λ bucket. slots_put true (slots_left bucket went) pair (hash % 256) in
+        let stands = x.splits.may.home.within in
+        let linked = ap (λ bs. length bs) (split_old hash x.ready.arrays doubled x.splits) in
+        let kept = keeps_both old.arrays doubled is.ready
+        (keeps_both old.arrays x.ready.arrays doubled x.prepared.kept.keeps (pushed_keeps _ x.ready.arrays doubled x.splits.pushed))
+        (ready_keeps doubled x.index is.ready is.makes) in
+        record {
+          ready = x.ready.arrays;
+          carried = λ some. prepared_moves hash old x.ready x.prepared;
+          first = λ none. (
+            (λ some. ap (λ (t : TableView K V H). t.arrays) (x.prepared.alone none)),
+            (λ lacks. absurd (omega (arith, lacks, stands, x.prepared.kept.current_len))),
+          );
+          between = is.ready;
+          split = inr (record {
+            doubled = doubled;
+            splits = x.splits;
+            carried = moves_beside doubled is.ready is.makes.beside (omega (arith, stands, linked));
+          });
+          map = arrays_stay eq laws old distinct is.ready kept;
+          index = x.index;
+          home = subst (λ bs. IsHome (length bs) hash x.index) same x.found.home;
+          goes = subst (λ bucket. Goes bucket went) here x.done.0;
+          put = replaced x.side x.index _ is.ready x.between.arrays new.arrays is.grown
+              (subst (λ bucket. new.arrays ≡ arrays_with x.between.arrays x.side x.index (after bucket)) here
+              (ap (λ (t : TableView K V H). t.arrays) x.done.1));
+        }
 
   module _ (wants : K → Bool) where
     left : (removed : Bool) (between : TableView K V H) → ShrinksAt wants slots_without removed between new

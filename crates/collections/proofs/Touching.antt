@@ -1,6 +1,6 @@
 -- The pair under a wanted key of a cache was touched where it stands, or none is wanted.
 use Rattle.std.proofs.Common.{ℕ, ◌≡◌, Bool, true, false, Some, None, is_some, refl, sym, ap, ◌∙◌}
-use Rattle.std.specs.Prelude.{MatchBool}
+use Rattle.std.specs.Prelude.{IsSome, MatchBool}
 use Rattle.std.specs.Cmp.{IsEquivalence}
 use Rattle.std.specs.List.{IsDistinct}
 use Rattle.std.specs.Map.{keys_of}
@@ -40,6 +40,12 @@ module _ {K V H : Type 0} (eq : K → K → Bool) (laws : IsEquivalence eq) (t b
   pub missed : IsAbsent wants (pairs_of b.arrays) → get_by wants (map_of t) ≡ None
   missed absent = form_absent wants (pairs_of t.arrays) (All-permutation (λ (p : K × V). wants p.0 ≡ false) (pairs_of b.arrays)
       (pairs_of t.arrays) (IsPermutation-sym (pairs_of t.arrays) (pairs_of b.arrays) keeps.pairs) absent)
+
+  -- a pair with a wanted key is there
+  pub present : (side : Side) (index : ℕ) (at : Place) → StandsAt wants b.arrays side index at → IsSome (get_by wants (map_of t))
+  present side index at stands =
+      let there = there_before wants (state_of 67 t) (state_of 67 b) stands.pair keeps stands.there in
+      rw (form_there eq laws wants alike (pairs_of t.arrays) stands.pair distinct there.0 there.1) refl
 
   module _ (hash : ℕ) where
     -- no pair is there to touch

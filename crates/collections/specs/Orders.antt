@@ -15,6 +15,7 @@ use Rattle.bucket_slots.specs.Slots.{is_free, live_pairs}
 use Rattle.bucket_table.specs.Map.ByKey.{StandsAt}
 use Rattle.bucket_table.specs.Map.Putting.{Goes, slots_left, slots_put}
 use Rattle.bucket_table.specs.Rehash.Carrying.{WentInOrder, chained_pairs}
+use Rattle.bucket_table.specs.Resize.Overfull.{SplitsHome}
 use Rattle.bucket_table.specs.Resize.Resizing.{IsMade}
 use Rattle.bucket_table.specs.Views.ArraysView.{ArraysView, TableView, pairs_of}
 use Rattle.bucket_table.specs.Views.Sides.{arrays_with, bucket_on}
@@ -58,15 +59,23 @@ abbrev pub ReplacesBucket : {K V : Type 0} → Side → ℕ → BucketView K V �
 ReplacesBucket side index bucket old new = (new ≡ arrays_with old side index bucket)
     ⊎ ((length old.linked ≡ 0) × (new.linked ≡ slice_set old.current index bucket))
 
--- the map stays; pairs of the old array, if there is one, may move on, and the first array is made if there is none; then a pair is put
--- into the home of its key's hash as the most recently used one, after an eviction if there is one
+-- the slots were doubled for a home with as many pairs as own slots: the array is the old one now, and pairs of it have moved on
+pub record IsSplit {K V : Type 0} (hash : ℕ) (old new : ArraysView K V) : Type 0 where
+  pub doubled : ArraysView K V
+  pub splits : SplitsHome hash old doubled
+  pub carried : MovesOn doubled new
+
+-- the map stays; pairs of the old array, if there is one, may move on, and the first array is made if there is none; then the slots may be
+-- doubled for the home of a key's hash; then a pair is put into that home as the most recently used one, after an eviction if there is one
 pub record PutsInHome {K V H : Type 0} (eq : K → K → Bool) (pair : K × V) (hash : ℕ) (gone : Option (K × V)) (old : TableView K V H)
     (new : ArraysView K V) : Type 0 where
+  pub ready : ArraysView K V
+  pub carried : 0 < length old.arrays.linked → MovesOn old.arrays ready
+  pub first : length old.arrays.linked ≡ 0 → (0 < length old.arrays.current → ready ≡ old.arrays)
+      × (length old.arrays.current ≡ 0 → IsMade old.arrays ready)
   pub between : ArraysView K V
+  pub split : (between ≡ ready) ⊎ IsSplit hash ready between
   pub map : Stays eq (map_of old) (map_of (record old { arrays = between }))
-  pub carried : 0 < length old.arrays.linked → MovesOn old.arrays between
-  pub first : length old.arrays.linked ≡ 0 → (0 < length old.arrays.current → between ≡ old.arrays)
-      × (length old.arrays.current ≡ 0 → IsMade old.arrays between)
   pub index : ℕ
   pub home : IsHome (length between.current) hash index
   pub goes : Goes (bucket_at between.current index) gone

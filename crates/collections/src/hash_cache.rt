@@ -31,7 +31,6 @@ mod removing;
 mod resizing;
 
 use crate::default_hash::DefaultHash;
-use crate::homes::learn_refused;
 use crate::key_form::{FormProbe, KeyForm, pair_by, value_by};
 use crate::room::{Fits, TableRoom};
 use crate::sizing::{LEAST_CAPACITY, size_for};
@@ -292,10 +291,13 @@ impl<K: Eq + Drop, V: Drop, H: KeyHash<K>> HashCache<K, V, H> {
         self.table.touch_by(hash, &mut FormProbe::<Q, H>::new(key))
     }
 
-    /// Inserts a pair whose key the cache hasn't, as the most recently used one of its bucket. If
-    /// no own slot of that bucket is free, a pair is evicted first, and returned: the least
-    /// recently used one, or the one in slot 0 if no pair was touched. The new pair takes an own
-    /// slot, so no overflow chain grows.
+    /// Inserts a pair whose key the cache does not contain, as the most recently used one of its
+    /// bucket.
+    ///
+    /// If that bucket has 32 pairs, the slots are doubled first, unless they are at the maximum or
+    /// an earlier resize still moves pairs. If no own slot of the bucket is free then, a pair is
+    /// evicted and returned: the least recently used one, or the one in slot 0 if no pair was
+    /// touched. The new pair takes an own slot, so no overflow chain grows.
     ///
     /// # Errors
     ///
@@ -313,10 +315,17 @@ impl<K: Eq + Drop, V: Drop, H: KeyHash<K>> HashCache<K, V, H> {
     {
         self.room.learn();
         self.table.sound();
-        let outcome = self.table.put(key, value);
-        learn_refused(&self.table, &outcome);
-        self.table.sound();
-        outcome
+        let hash = self.table.hash(&key);
+        match self
+            .table
+            .fetch_place(hash, &mut FormProbe::<&K, H>::new(&key))
+        {
+            Ok(_) => {
+                self.table.sound();
+                Err(NotInserted::Present(key, value))
+            }
+            Err(home) => self.put_vacant(home, hash, key, value),
+        }
     }
 
     /// Removes the pair under a key, or under the keys that a form stands for, and returns it;

@@ -1,10 +1,11 @@
 -- What finding a bucket for a new pair does to a table that grows instead where the bucket is overfull.
 use Rattle.std.specs.Prelude.{ℕ, ◌≡◌, ◌⊎◌, Result, Ok, Err, length}
 use Rattle.bucket_slots.specs.Homes.{IsHome}
-use Rattle.bucket_table.specs.Map.Finding.{ReadiesThenGrows}
+use Rattle.bucket_table.specs.Map.Finding.{FindsBucket, FindsThen, ReadiesThenGrows}
 use Rattle.bucket_table.specs.Map.MapState.{KeepsPairs, state_of}
+use Rattle.bucket_table.specs.Map.Preparing.{IsPrepared}
 use Rattle.bucket_table.specs.Map.Refusing.{IsRefused}
-use Rattle.bucket_table.specs.Resize.Overfull.{GrowsOverfull}
+use Rattle.bucket_table.specs.Resize.Overfull.{GrowsOverfull, SplitsHome}
 use Rattle.bucket_table.specs.Views.ArraysView.{ArraysView, TableView}
 use Rattle.bucket_table.specs.Views.Keeping.{Keeps}
 use Rattle.bucket_table.specs.Views.Locking.{IsLocked}
@@ -39,3 +40,28 @@ pub record FindsOrGrowsThen {K V H : Type 0} (kind hash : ℕ) (old : TableView 
   pub between : TableView K V H
   pub found : FindsOrGrows kind hash old answer between
   pub done : Then answer between
+
+-- a hash's home, which is ready, stays as it is; or the slots were doubled for it, and the table is prepared
+abbrev pub SplitsReady : {K V H : Type 0} → ℕ → ℕ → TableView K V H → TableView K V H → Type 0
+SplitsReady {K} {V} {H} kind hash old new = (new ≡ old)
+    ⊎ ((doubled : TableView K V H) × SplitsHome hash old.arrays doubled.arrays × KeepsPairs (state_of kind old) (state_of kind doubled)
+    × IsPrepared kind hash doubled new)
+
+-- the table is prepared, the slots are doubled for a home that may be split, a writer's bucket is found, and then this is done
+pub record SplitsThen {K V H : Type 0} (kind hash : ℕ) (old : TableView K V H)
+    (Then : Result (Side × ℕ) (Unit {0}) → TableView K V H → Type 0) : Type 0 where
+  pub ready : TableView K V H
+  pub doubled : TableView K V H
+  pub side : Side
+  pub index : ℕ
+  pub between : TableView K V H
+  pub prepared : IsPrepared kind hash old ready
+  pub splits : SplitsHome hash ready.arrays doubled.arrays
+  pub same : KeepsPairs (state_of kind ready) (state_of kind doubled)
+  pub found : FindsBucket kind hash doubled side index between
+  pub done : Then (Ok (side, index)) between
+
+-- a writer's bucket is looked for, and then this is done, or the slots are doubled first
+abbrev pub FindsOrSplitsThen : {K V H : Type 0} → ℕ → ℕ → TableView K V H → (Result (Side × ℕ) (Unit {0}) → TableView K V H → Type 0)
+    → Type 0
+FindsOrSplitsThen kind hash old Then = FindsThen kind hash old Then ⊎ SplitsThen kind hash old Then

@@ -29,3 +29,22 @@ abbrev pub GrowsIfOverfull : {K V E : Type 0} → ℕ → ArraysView K V → Res
 GrowsIfOverfull hash old (Ok true) new = GrowsOverfull hash old new
 GrowsIfOverfull hash old (Ok false) new = (IsOverfull hash old → ⊥) × (new ≡ old)
 GrowsIfOverfull hash old (Err refused) new = IsOverfull hash old × (new ≡ old)
+
+-- a hash's home may be split: no old array stands, the home has as many pairs as own slots, and twice the slots pass no maximum
+pub record MaySplit {K V : Type 0} (hash : ℕ) (arrays : ArraysView K V) : Type 0 where
+  pub index : ℕ
+  pub alone : length arrays.linked ≡ 0
+  pub home : IsHome (length arrays.current) hash index
+  pub full : length (pairs_in (bucket_at arrays.current index)) ≡ 32
+  pub may_grow : 64 * length arrays.current ≤ arrays.maximum
+
+-- then the current array becomes the old one, and an empty one of twice its slots the current one
+pub record SplitsHome {K V : Type 0} (hash : ℕ) (old new : ArraysView K V) : Type 0 where
+  pub may : MaySplit hash old
+  pub pushed : IsPushed (64 * length old.current) old new
+
+-- what trying it answers: whether the slots were doubled; they are where a hash's home may be split, unless allocation fails
+abbrev pub TriesSplit : {K V E : Type 0} → ℕ → ArraysView K V → Result Bool E → ArraysView K V → Type 0
+TriesSplit hash old (Ok true) new = SplitsHome hash old new
+TriesSplit hash old (Ok false) new = (MaySplit hash old → ⊥) × (new ≡ old)
+TriesSplit hash old (Err refused) new = MaySplit hash old × (new ≡ old)

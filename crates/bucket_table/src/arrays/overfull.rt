@@ -1,8 +1,10 @@
 //! The growth that one bucket starts, which has far more pairs than own slots.
-ghost use Rattle.std.specs.Prelude.{◌≡◌, ◌<◌, ◌↔◌, ℕ, IsTrue, length};
+ghost use Rattle.std.specs.Prelude.{◌≡◌, ◌<◌, ◌↔◌, ℕ, IsTrue, Ok, length, true};
 ghost use Rattle.bucket_slots.specs.Homes.{IsHome};
 ghost use Rattle.bucket_table.specs.Map.Counting.{counted_to};
-ghost use Rattle.bucket_table.specs.Resize.Overfull.{GrowsIfOverfull, HasFullHome};
+ghost use Rattle.bucket_slots.specs.Sizing.{IsLength};
+ghost use Rattle.bucket_table.specs.Resize.Overfull.{GrowsIfOverfull, HasFullHome, MaySplit};
+ghost use Rattle.bucket_table.specs.Resize.Overfull.{TriesSplit};
 ghost use Rattle.bucket_table.specs.Views.ArraysView.{ArePlaced, pairs_of};
 ghost use Rattle.bucket_table.specs.Views.Keeping.{Keeps};
 
@@ -31,6 +33,26 @@ impl<K, V, L: LruList, const TYPE: u8> Arrays<K, V, L, TYPE> {
         let index = self.home(hash);
         self.room_of(Side::Current);
         self.bucket_of(Side::Current, index).len() >= OVERFULL_LEN
+    }
+
+    /// Returns whether no old array stands, the home of a hash has as many pairs as own slots, and
+    /// twice the slots pass no maximum.
+    #[inline(always)]
+    fn may_split(&self, hash: u64) -> bool
+        ensures { IsTrue result ↔ MaySplit hash self.now }
+    {
+        if self.has_old() {
+            return false;
+        }
+        if !self.has_current() {
+            return false;
+        }
+        let index = self.home(hash);
+        self.room_of(Side::Current);
+        if self.bucket_of(Side::Current, index).len() != BUCKET_LEN {
+            return false;
+        }
+        self.len() * (2 * BUCKET_LEN) <= self.maximum
     }
 
     /// Returns the index of a hash's home in the old array.
@@ -73,6 +95,35 @@ impl<K: Drop, V: Drop, L: LruList + Drop, const TYPE: u8> Arrays<K, V, L, TYPE> 
         }
         match self.remake_array(len * (2 * BUCKET_LEN)) {
             Ok(()) => Ok(true),
+            Err(refused) => Err(refused),
+        }
+    }
+
+    /// Makes an empty array of twice the slots the current one, and the current one the old one, if
+    /// the home of a hash is full: it has as many pairs as own slots, no old array stands, and twice
+    /// the slots pass no maximum. Returns whether it did.
+    ///
+    /// # Errors
+    ///
+    /// Allocation failed: nothing changes.
+    #[inline(never)]
+    pub(crate) fn split_home(&mut self, hash: u64) -> Result<bool, AllocError>
+        ensures split { TriesSplit hash self.old result self.new }
+        ensures kept { Keeps self.old self.new }
+        ensures placed { (hash_of : K → ℕ) → ArePlaced hash_of self.old
+            → ArePlaced hash_of self.new }
+        ensures long { result ≡ Ok true → IsLength (length self.new.linked)
+            × IsLength (length self.new.current) }
+    {
+        if !self.may_split(hash) {
+            return Ok(false);
+        }
+        match self.remake_array(self.len() * (2 * BUCKET_LEN)) {
+            Ok(()) => {
+                let _old_len = self.old_len();
+                let _len = self.len();
+                Ok(true)
+            }
             Err(refused) => Err(refused),
         }
     }

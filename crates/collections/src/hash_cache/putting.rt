@@ -118,7 +118,7 @@ impl<K: Eq + Drop, V: Drop, H: KeyHash<K>> HashCache<K, V, H> {
 
     /// Inserts a pair with this hash, whose key a search hasn't found.
     #[inline(always)]
-    fn put_vacant(
+    pub(super) fn put_vacant(
         &mut self,
         home: Vacancy,
         hash: u64,

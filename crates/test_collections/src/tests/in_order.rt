@@ -3,6 +3,8 @@
 //! the keys, and no bucket is left with many of them.
 use super::check_same;
 use bucket_table::script::{FixedGeneration, ScriptHash};
+use collections::DefaultHash;
+use collections::hash_cache::HashCache;
 use collections::hash_index::HashIndex;
 use collections::hash_map::HashMap;
 use collections::hash_set::HashSet;
@@ -175,5 +177,20 @@ fn a_map_of_one_hash_grows_no_further(rt: HostRuntime) -> Result<(), Fail> {
         (1000, true),
         "one hash",
     );
+    Ok(())
+}
+
+// A cache doubles its slots before it evicts, so it loses only what comes while pairs move: fewer
+// than one in a thousand.
+#[test]
+fn a_cache_grows_before_it_evicts(rt: HostRuntime) -> Result<(), Fail> {
+    let from = filled(rt.alloc());
+    let mut to: HashCache<u64, u64> =
+        HashCache::with_capacity(rt.alloc(), DefaultHash::default(), 0, 65536);
+    for (key, value) in &from {
+        let _ = to.put(*key, *value);
+    }
+    let kept = to.len();
+    check_same(&rt, KEYS - KEYS / 1000 <= kept, true, ("cache", kept));
     Ok(())
 }

@@ -1,17 +1,20 @@
 //! Calls by key that evict a pair of a cache.
 //!
 //! Own.
-ghost use Rattle.std.specs.Prelude.{◌≡◌, ◌%◌, ℕ, Bool, Err, IsOk, Ok, Option, length};
+ghost use Rattle.std.specs.Prelude.{◌≡◌, ◌%◌, ℕ, Bool, Err, IsOk, Ok, Option, length, true};
 ghost use Rattle.bucket_slots.specs.BucketView.{BucketView};
 ghost use Rattle.bucket_slots.specs.Homes.{IsHome};
+ghost use Rattle.bucket_slots.specs.Sizing.{IsLength};
 ghost use Rattle.bucket_table.specs.Map.ByKey.{Evicts, PreparesThen};
 ghost use Rattle.bucket_table.specs.Map.Finding.{FindsThen};
+ghost use Rattle.bucket_table.specs.Map.FindingGrown.{FindsOrSplitsThen, SplitsReady};
 ghost use Rattle.bucket_table.specs.Map.LookingUp.{IsAbsent};
-ghost use Rattle.bucket_table.specs.Map.MapState.{state_of};
+ghost use Rattle.bucket_table.specs.Map.MapState.{KeepsPairs, state_of};
 ghost use Rattle.bucket_table.specs.Map.Preparing.{IsPrepared, IsReady};
 ghost use Rattle.bucket_table.specs.Map.Putting.{EvictsAt, Goes, Puts, PutsAt, PutsIn};
 ghost use Rattle.bucket_table.specs.Map.Putting.{slots_left, slots_put};
 ghost use Rattle.bucket_table.specs.Map.Vacancies.{IsVacancy};
+ghost use Rattle.bucket_table.specs.Resize.Overfull.{TriesSplit};
 ghost use Rattle.bucket_table.specs.Views.ArraysView.{TableView, pairs_of};
 ghost use Rattle.bucket_table.specs.Views.Locking.{IsLocked};
 ghost use Rattle.bucket_table.specs.Views.Sides.{bucket_on, buckets_on, with_bucket};
@@ -80,15 +83,19 @@ impl<K: Eq + Drop, V: Drop, H: KeyHash<K>, L: LruList + Drop, const TYPE: u8> Ha
         self.put_hashed(hash, key, value)
     }
 
-    /// Inserts a pair whose key is absent into a cache, as `put` does, after `touch_place` found no
-    /// equal key: it searches nothing, and works no unit. Returns the evicted pair, if there is
-    /// one.
+    /// Inserts a pair whose key is absent into a cache, as `put` does, after `fetch_place` or
+    /// `touch_place` found no equal key, without another search. Returns the evicted pair, if there
+    /// is one.
+    ///
+    /// If the home has as many pairs as own slots, there is no old array, and twice the slots do
+    /// not pass the maximum, the slots are doubled first, a unit is worked, and the home's pairs
+    /// move on, so that a pair is evicted only if the home is full then too or allocation fails.
     ///
     /// # Errors
     ///
     /// Allocation failed: the pair is returned, and none is evicted.
     ///
-    /// O(1), and buckets that a resize makes. Own.
+    /// O(1), and buckets that a resize makes.
     #[inline(always)]
     pub fn put_vacant(
         &mut self,
@@ -106,17 +113,47 @@ impl<K: Eq + Drop, V: Drop, H: KeyHash<K>, L: LruList + Drop, const TYPE: u8> Ha
         ensures succeeds { home ≡ Ready → IsOk result }
         ensures arrays { (first : TableView K V H) → IsPrepared TYPE hash first self.old
             → IsVacancy home hash first.arrays self.old.arrays
-            → FindsThen TYPE hash first (λ answer between.
+            → FindsOrSplitsThen TYPE hash first (λ answer between.
             PutsAt L.KEEPS (key, value) (hash % 256) between result answer self.new) }
     {
         match home {
             Vacancy::Ready => {
+                self.split_home(hash);
                 let (side, index) = self.find_ready(hash);
                 Ok(self.put_absent(side, index, hash, key, value))
             }
             Vacancy::NoArray => self.put_hashed(hash, key, value),
             Vacancy::NoMemory => Err(NotInserted::Memory(key, value)),
         }
+    }
+
+    /// Doubles the slots for the home of a hash, which is ready, if it has as many pairs as own
+    /// slots, no old array stands, and twice the slots do not pass the maximum; then the home is
+    /// ready again. If allocation fails, nothing changes.
+    fn split_home(&mut self, hash: u64)
+        requires ready { IsReady self.old.arrays hash }
+        ensures map { KeepsPairs (state_of TYPE self.old) (state_of TYPE self.new) }
+        ensures ready { IsReady self.new.arrays hash }
+        ensures split { SplitsReady TYPE hash self.old self.new }
+    {
+        let Ok(true) = self.try_split(hash) else {
+            return;
+        };
+        match self.fetch_home(hash) {
+            Ok(()) => {}
+            Err(_) => unreachable!(),
+        }
+    }
+
+    /// Doubles the slots, if the home of a hash may be split, and returns whether it did.
+    fn try_split(&mut self, hash: u64) -> Result<bool, AllocError>
+        ensures split { TriesSplit hash self.old.arrays result self.new.arrays }
+        ensures map { KeepsPairs (state_of TYPE self.old) (state_of TYPE self.new) }
+        ensures hasher { self.new.hasher ≡ self.old.hasher }
+        ensures long { result ≡ Ok true → IsLength (length self.new.arrays.linked)
+            × IsLength (length self.new.arrays.current) }
+    {
+        self.arrays.split_home(hash)
     }
 
     /// Inserts a pair whose key is absent and has this hash.

@@ -113,14 +113,18 @@ impl<K: Eq + Drop, V: Drop, H: KeyHash<K>, L: LruList + Drop, const TYPE: u8> Ha
         }
     }
 
-    /// Works a unit, moves the sources of a hash's home, and returns the first live slot that a
-    /// probe wants, on either side.
+    /// Works a unit, moves the sources of a hash's home, and returns the place of the first pair
+    /// that matches a probe. The probe matches keys of this hash alone.
+    ///
+    /// May take memory, and never fails for lack of it.
     ///
     /// # Errors
     ///
-    /// The map has none. The error says whether the home is ready.
+    /// The map has no such pair. The error is the `Vacancy` for `put_vacant`.
+    ///
+    /// O(unit).
     #[inline(always)]
-    fn fetch_place<P: KeyProbe<K>>(
+    pub fn fetch_place<P: KeyProbe<K>>(
         &mut self,
         hash: u64,
         probe: &mut P,

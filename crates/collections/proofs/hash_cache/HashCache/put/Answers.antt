@@ -1,22 +1,41 @@
-use Rattle.std.proofs.Common.{true}
-use Rattle.collections.proofs.Crowding.{put_lacks}
-use Rattle.collections.proofs.Orders.{puts_home}
-use Rattle.collections.proofs.Steps.{puts}
+use Rattle.std.proofs.Common.{refl}
+use Rattle.bucket_table.proofs.CallerLemmas.{own_kept}
+use Rattle.collections.proofs.Orders.{prepared_leaves}
+use Rattle.collections.proofs.Touching.{kept, present}
+use Rattle.collections.proofs.Upserting.{vacant_put}
 use Rattle.collections.proofs.hash_cache.HashCache.put.Goals as goal
 
-pub returns-clause-map : goal.returns-clause-map
-returns-clause-map g c = rw (← c.self.view_is) (puts g.K.PartialEq.eq g.met.K.Eq.laws 67 c.self.inside.table c.put-outcome.new.self
-    c.sound.ensures.one_map.distinct c.sound-2.ensures.one_map.distinct c.args.key c.args.value
-    c.put-outcome.result c.put-outcome.ensures.map)
+pub returns-in-Ok-clause-map : goal.returns-in-Ok-clause-map
+returns-in-Ok-clause-map g c =
+    let eq = g.K.PartialEq.eq in
+    let laws = g.met.K.Eq.laws in
+    let keeps = c.fetch_place.ensures.prepared.map in
+    let distinct = c.sound.ensures.one_map.distinct in
+    let found = rw c.new.ensures.form at c.in-Ok.ensures.found in
+    let congr = laws.congr c.args.key in
+    rw (← c.self.view_is) (
+      (refl, refl, present eq laws c.self.inside.table c.fetch_place.new.self distinct (eq c.args.key) congr keeps _ _ _ found),
+      kept eq laws c.self.inside.table c.fetch_place.new.self distinct (eq c.args.key) congr keeps,
+    )
 
-pub returns-clause-home : goal.returns-clause-home
-returns-clause-home g c =
-    let puts = c.put-outcome.ensures.arrays in
-    rw (← c.self.view_is) (puts_home _ c.self.inside.table c.put-outcome.new.self g.K.PartialEq.eq g.met.K.Eq.laws
-    c.sound.ensures.one_map.distinct (c.args.key, c.args.value) c.put-outcome.result puts.answer puts.between puts.found puts.done)
+pub returns-in-Ok-clause-home : goal.returns-in-Ok-clause-home
+returns-in-Ok-clause-home g c =
+    rw (← c.self.view_is) (prepared_leaves _ c.self.inside.table c.fetch_place.new.self c.fetch_place.ensures.prepared)
 
-pub returns-clause-memory : goal.returns-clause-memory
-returns-clause-memory g c = λ is. rw (← c.self.view_is) (put_lacks g.H.KeyHash.hash_of c.args.key c.self.inside.table c.put-outcome.new.self
-    c.sound-2.ensures.one_map.placed (c.learn_refused.ensures.current c.args.key c.args.value is)
-    (c.learn_refused.ensures.old c.args.key c.args.value is) true c.args.value g.K.PartialEq.eq c.put-outcome.result
-    c.args.key c.args.value c.put-outcome.ensures.map c.put-outcome.ensures.arrays is)
+pub put_vacant-requires : goal.put_vacant-requires
+put_vacant-requires g c =
+    let e = rw c.new.ensures.form at c.in-Err.ensures in
+    record {
+      own_hash = own_kept g.H.KeyHash.hash_of c.args.key c.hash-hash.result 67 c.self.inside.table c.fetch_place.new.self
+          c.fetch_place.ensures.prepared.map c.hash-hash.ensures;
+      absent = e.absent;
+      ready = λ is. rw is at e.vacancy;
+    }
+
+pub returns-in-Err : goal.returns-in-Err
+returns-in-Err g c =
+    let e = c.in-Err.ensures in
+    let put = rw c.hash-hash.ensures at (c.put_vacant.ensures.put c.self.inside.table c.fetch_place.ensures.prepared e.vacancy) in
+    let answers = vacant_put g.K.PartialEq.eq g.H.KeyHash.hash_of c.args.key c.args.value _ c.self.inside.table c.put_vacant.new.self
+    c.put_vacant.result put in
+    rw (← c.self.view_is) (record { map = answers.0; home = answers.1; memory = answers.2 })

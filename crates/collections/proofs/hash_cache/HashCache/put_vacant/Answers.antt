@@ -25,6 +25,6 @@ returns-clause-put g c =
     let e = c.put_vacant-outcome.ensures in
     rw (← c.self.view_is) (λ first prepared vacancy. put_vacant g.K.PartialEq.eq g.met.K.Eq.laws g.H.KeyHash.hash_of c.args.key c.args.value
     c.args.hash first b s prepared (rw (← c.self.view_is) at c.requires.own_hash) c.sound.ensures.one_map.distinct
-    c.sound-2.ensures.one_map.distinct c.put_vacant-outcome.result e.map (e.arrays first prepared vacancy)
+    c.sound-2.ensures.one_map.distinct c.put_vacant-outcome.result e.map (e.arrays first prepared vacancy) e.absent
     c.sound-2.ensures.one_map.placed (c.learn_refused.ensures.current c.args.key c.args.value)
-    (c.learn_refused.ensures.old c.args.key c.args.value) e.absent)
+    (c.learn_refused.ensures.old c.args.key c.args.value))

@@ -1,0 +1,26 @@
+use Rattle.bucket_table.proofs.Words.{Ok, ap, inr}
+use Rattle.bucket_table.specs.Map.MapState.{state_of}
+use Rattle.bucket_table.proofs.Scripts.CallSteps.{then_kept}
+use Rattle.bucket_table.proofs.Resize.Splitting.{never_missing}
+use Rattle.bucket_table.proofs.hash_table.HashTable.split_home.Goals as goal
+
+pub unreachable-requires : goal.unreachable-requires
+unreachable-requires g c =
+    let e = c.in-Ok-true.ensures in
+    let splits = rw c.in-Ok-true.field-0-test at e.split in
+    let long = e.long (ap Ok c.in-Ok-true.field-0-test) in
+    never_missing c.args.hash c.args.self.now.arrays c.try_split.new.self.arrays splits c.fetch_home.new.self.arrays long.0 long.1
+    c.fetch_home.ensures.prepared.kept c.fetch_home.ensures.prepared.units c.in-Err.field-0 c.in-Err.ensures.missing c.in-Err.ensures.wanted
+
+pub returns-clause-map : goal.returns-clause-map
+returns-clause-map g c =
+    then_kept (state_of g.row.TYPE c.args.self.now) (state_of g.row.TYPE c.try_split.new.self)
+    (state_of g.row.TYPE c.fetch_home.new.self) c.try_split.ensures.map c.fetch_home.ensures.prepared.map
+
+pub returns-clause-split : goal.returns-clause-split
+returns-clause-split g c = inr (
+  c.try_split.new.self,
+  rw c.in-Ok-true.field-0-test at c.in-Ok-true.ensures.split,
+  c.try_split.ensures.map,
+  c.fetch_home.ensures.prepared,
+)
