@@ -64,7 +64,7 @@ cp "$root/crates/bhtable/out/bhtable" "$copy/crates/bhtable/out/bhtable"
 touch "$copy/crates.txt" "$copy/crates/collections/src/lib.rt"
 "$copy/bhtable" <"$folder/lines" >"$folder/output" 2>"$folder/log"
 ran $? 0 "$folder/replies" ""
-touch "$copy/crates/line_io/src/lib.rt"
+touch "$copy/crates/bhtable/src/lines.rt"
 "$copy/bhtable" <"$folder/lines" >"$folder/output" 2>"$folder/log"
 ran $? 0 "$folder/replies" "$unproved"
 

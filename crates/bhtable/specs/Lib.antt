@@ -1,0 +1,13 @@
+pub mod Answers
+pub mod Found
+pub mod Growing
+pub mod InputLines
+pub mod Layout
+pub mod LinesView
+pub mod Meanings
+pub mod Numbers
+pub mod OutputLines
+pub mod Outputs
+pub mod Requests
+pub mod Texts
+pub mod Words

@@ -1,7 +1,0 @@
-use Rattle.bhtable_lines.proofs.Outputs.{served}
-use Rattle.bhtable_lines.proofs.serve.Goals as goal
-
-pub returns-in-Err : goal.returns-in-Err
-returns-in-Err g c =
-    let left = c.in-Err.ensures in
-    served c.in-Err.stop _ _ _ _ left.0 c.report.result left.1 left.2 c.report.ensures

@@ -1,5 +1,0 @@
-use Rattle.line_io.proofs.LoneNumber.{lone_part}
-use Rattle.line_io.proofs.words.lone_number.Goals as goal
-
-pub returns : goal.returns
-returns c = lone_part _ c.number_of.result c.number_of.ensures.accepted c.number_of.ensures.value

@@ -1,9 +1,0 @@
-pub mod Found
-pub mod Growing
-pub mod InputLines
-pub mod Layout
-pub mod LinesView
-pub mod Meanings
-pub mod Numbers
-pub mod OutputLines
-pub mod Words
