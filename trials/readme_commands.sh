@@ -1,8 +1,9 @@
 #!/usr/bin/env bash
 # Plays the shell commands of README and of docs/bhtable.md in a copy of the repository where nothing
-# is built: README's example, which has to print what its comments say, and `./bhtable`, whose replies
-# have to be those that its page shows. README's set and cache are run too, and its clauses have to be
-# those of the function that it names.
+# is built: `./bhtable`, whose replies have to be those that README and its page show, and README's
+# example, which has to print what its comments say. README's set and cache are run too, and its
+# clauses have to be those of the function that it names. It passes too where the example's crate was
+# added to the repository, as README says.
 #
 # Needs no proof.
 #
@@ -13,33 +14,43 @@ source "$root/trials/lib/documents.sh"
 need_rt
 copy=$folder/copy
 copy_repository "$copy"
+# The example's crate, if README was followed here.
+rm -rf "$copy/crates/ages"
+sed -i '/^ages:/d' "$copy/crates.txt"
 
 # printed: standard input has to be what the last command wrote.
 printed() {
-    diff - "$folder/output" >"$folder/log" || fail "$1: told (<) and printed (>) differ"
+    diff - "$folder/output" >"$folder/log" || fail "$1: shown (<) and printed (>) differ"
 }
 
 # The clauses, each a line of the file that README links before them.
-file=$(sed -n 's/^The function .*](\([^)]*\)).*$/\1/p' "$root/README.md")
+file=$(sed -n 's/^\[`add(.*)`\](\([^)]*\)).*$/\1/p' "$root/README.md")
 [ -f "$root/$file" ] || fail "README names no file for its clauses"
-block README.md rust 1 >"$folder/clauses"
+block README.md rattle 1 >"$folder/clauses"
 [ -s "$folder/clauses" ] || fail "README shows no clause"
 while IFS= read -r line; do
     grep -qxF -- "$line" "$root/$file" || fail "$file has no line '$line'"
 done <"$folder/clauses"
 
 # `rt run` and `--prove` would prove the crates below anew in the copy, some 15 minutes: `./check`
-# proves and runs such programs, and bhtable_command.sh calls `--prove`.
-unplayed='rt run'
+# proves and runs such programs, and bhtable_command.sh calls `--prove`. `./check --quick` runs this
+# trial.
+unplayed='./check --quick
+rt run'
 check_unplayed README.md
-[ "$(blocks README.md)" = 1 ] || fail "README has other than one block of commands"
+[ "$(blocks README.md)" = 2 ] || fail "README has other than two blocks of commands"
 play README.md 1 "$copy"
-block README.md sh 1 | sed -n 's/^rt try.*: prints //p' | grep -o "'[^']*'" | tr -d "'" >"$folder/told"
+sed -n 's/^- \[`bhtable`\].* here \(.*\), after .*$/\1/p' "$root/README.md" |
+    grep -o '`[^`]*`' | tr -d '`' >"$folder/shown"
+[ "$(wc -l <"$folder/shown")" = 5 ] || fail "README doesn't show five replies"
+printed "README's lines for ./bhtable" <"$folder/shown"
+play README.md 2 "$copy"
+block README.md sh 2 | sed -n 's/^rt try.*: prints //p' | grep -o "'[^']*'" | tr -d "'" >"$folder/told"
 [ -s "$folder/told" ] || fail "README's example doesn't say what it prints"
 printed "README's example" <"$folder/told"
 
 # The set and the cache, in the main of the example's crate.
-block README.md rust 2 >"$folder/main"
+block README.md rust 1 >"$folder/main"
 {
     printf '%s\n' '#![tactic(auto)]' 'use std::io;' 'fn main(rt: HostRuntime) -> io::Result<()> {'
     cat "$folder/main"

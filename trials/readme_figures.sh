@@ -1,7 +1,6 @@
 #!/usr/bin/env bash
-# Compares README's sentences on speed with README's own table: how many times std's time a call takes
-# with a million pairs, and the longest insertion. Compares its counts with the files: lines of code,
-# specs and proofs, wrong bodies, and calls that go beside a model.
+# Compares the longest insertions that README gives twice, and its counts with the files: lines of
+# code, specs and proofs, wrong bodies, and random calls.
 #
 # Needs no proof.
 #

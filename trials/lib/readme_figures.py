@@ -1,33 +1,27 @@
-"""Compares the figures of README's sentences with its table, and with the files that they count.
+"""Compares README's longest insertions with one another, and its counts with the files that they count.
 Called with README's path."""
 
 import re
 import sys
 from pathlib import Path
 
-# A row of the table, and how the sentence on ratios names it.
-ROWS = {"insert, grown": "an insertion takes", "hit": "a hit", "miss": "a miss", "remove": "a removal"}
-PAIRS = "1,000,000 pairs"
-# The name of the map that the ratios are to, in the head of the table.
-STD = "std"
-
 # The longest insertion of these containers and of std's map, in ms: at the head of README, and below
 # the table.
 LONGEST = [
-    r"longest of 4,000,000 insertions took ([\d.]+) ms, in std's map ([\d.]+) ms",
+    r"longest of 4,000,000 insertions took ([\d.]+) ms \(std ([\d.]+)\)",
     r"longest of 4,000,000 insertions took ([\d.]+) ms \(kit [\d.]+, std ([\d.]+)\)",
 ]
 
 # The crates whose lines README counts, and the sentence that tells how many.
-CRATES = ["bucket_slots", "bucket_table", "collections", "bucket_calls", "bucket_c"]
+CRATES = ["bucket_slots", "bucket_table", "bhtable", "collections", "bucket_calls", "bucket_c"]
 LINES = r"have ([\d,]+) lines of code, ([\d,]+) of specs and ([\d,]+) of proofs"
 # They are told in thousands, and may be one thousand off.
 THOUSAND = 1000
 
-# The wrong bodies, and the calls by chance: all, those while allocations fail, and those on each
+# The wrong bodies, twice, and the random calls: all, those while allocations fail, and those on each
 # collection of the bindings.
 EDITS = r"([\d,]+) wrong bodies"
-CALLS = r"([\d,]+) calls by chance on the four collections .*? ([\d,]+) of them while allocations fail"
+CALLS = r"([\d,]+) random calls on the four collections .*? ([\d,]+) of them while allocations fail"
 BOUND_CALLS = r"([\d,]+) on each kind of collection from C\+\+, from Rust and from Python"
 
 
@@ -47,36 +41,11 @@ def number(digits):
     return int(digits.replace(",", "").replace("_", ""))
 
 
-def figures(text):
-    """Of each row of the table the figures with a million pairs, by the name of the map."""
-    rows = [[cell.strip() for cell in line.strip("|").split("|")] for line in text.splitlines()]
-    heads = [row for row in rows if PAIRS in row]
-    if len(heads) != 1:
-        fail(f"{len(heads)} tables in place of one have a column {PAIRS!r}")
-    names = heads[0][0].split(", ")
-    column = heads[0].index(PAIRS)
-    table = {}
-    for row in rows[rows.index(heads[0]) + 2 :]:
-        if len(row) <= column:
-            break
-        table[row[0]] = dict(zip(names, map(float, row[column].split(", ")), strict=True))
-    return names[0], table
-
-
-def compare_times(text):
-    ours, table = figures(text)
-    sentence = found(r"with a million pairs (an insertion takes [^(]*) \(\[Speed\]", text)
-    for row, words in ROWS.items():
-        told = found(words + r" (\d+(?:\.\d+)?)", sentence)
-        ratio = table[row][ours] / table[row][STD]
-        # As exact as it is told.
-        decimals = len(told.partition(".")[2])
-        if f"{ratio:.{decimals}f}" != told:
-            fail(f"it says that {words} {told} times std's time; by its table it is {ratio:.{decimals}f}")
+def compare_longest(text):
     head, below = (found(pattern, text) for pattern in LONGEST)
     if head != below:
         fail(f"the longest insertions are {head} ms at its head, and {below} below its table")
-    print(f"{len(ROWS)} ratios and {len(head)} longest insertions are those of the table")
+    print(f"{len(head)} longest insertions are the same at the head and below the table")
 
 
 def lines_of(root, folder, ending):
@@ -98,7 +67,7 @@ def compare_exact(what, told, counts):
         fail(f"it says {told} {what}; there are {counts}")
 
 
-def calls_by_chance(root):
+def random_calls(root):
     """How many calls crates/trial_refused_collections makes in a run, and in the runs that refuse memory."""
     output = (root / "crates/trial_refused_collections/stdout").read_text()
     calls = sum(map(int, re.findall(r"(\d+) calls", output)))
@@ -109,8 +78,8 @@ def calls_by_chance(root):
 def compare_counts(text, root):
     compare_lines(text, root)
     edits = len(list(root.glob("crates/*/must-fail/*.edit")))
-    compare_exact("wrong bodies", [found(EDITS, text)], [edits])
-    compare_exact("calls by chance", found(CALLS, text), calls_by_chance(root))
+    compare_exact("wrong bodies", re.findall(EDITS, text), [edits, edits])
+    compare_exact("random calls", found(CALLS, text), random_calls(root))
     for file, pattern in (
         ("bindings/cpp/tests/random.cpp", r"constexpr int calls = (\d+);"),
         ("bindings/rust/tests/common/mod.rs", r"unwrap_or\(([\d_]+)\)"),
@@ -118,12 +87,12 @@ def compare_counts(text, root):
     ):
         calls = number(found(pattern, (root / file).read_text()))
         compare_exact(f"calls of {file}", [found(BOUND_CALLS, text)], [calls])
-    print("the lines, the wrong bodies and the calls by chance are those of the files")
+    print("the lines, the wrong bodies and the random calls are those of the files")
 
 
 def main(path):
     text = Path(path).read_text()
-    compare_times(text)
+    compare_longest(text)
     compare_counts(text, Path(path).resolve().parent)
 
 

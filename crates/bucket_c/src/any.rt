@@ -34,7 +34,7 @@ pub extern "C" fn bucket_free(alloc: Global, handle: &mut Handle)
 
 /// Returns how many pairs or keys the handle holds; 0 where it is closed.
 ///
-/// O(slots / 32). `HashMap::len`.
+/// O(1). `HashMap::len`.
 #[unsafe(no_mangle)]
 pub extern "C" fn bucket_len(handle: &mut Handle) -> usize
     ensures len { result ≡ min (len_of handle.old.held.table) (2 ^ 64 - 1) }

@@ -9,6 +9,9 @@
 //! Ports scc's `src/hash_table/bucket_array.rs`. The buckets are in vectors whose memory is
 //! allocated at once, and a bucket is made when it is first lent for writing. scc allocates zeroed
 //! raw memory, aligns it and writes data blocks into it.
+//!
+//! What `digested`, `moving`, `walking` and `writing` export is public for `bucket_table` alone, as
+//! `settle`, `adopt_digests`, `start_digests`, `spread_own`, `release_into` and `release_around`.
 ghost use Rattle.std.specs.Prelude.{◌≡◌, ◌*◌, ◌^◌, ◌<◌, ◌≤◌, ◌↔◌, IfOk, IsTrue, length};
 ghost use Rattle.std.specs.Borrow.{sem};
 ghost use Rattle.bucket_slots.specs.ArrayView.{IsNewArray, bucket_at};

@@ -4,6 +4,7 @@ pub mod Sampling
 pub mod Resizing
 pub mod Asking
 pub mod Growing
+pub mod Overfull
 pub mod TableCapacity
 pub mod Remaking
 pub mod Renewing

@@ -2,8 +2,9 @@
 //! incremental rehash, an old one.
 //!
 //! Model: `TableView`, the hasher and the arrays; the map is `pairs_of` the arrays.
-//! Invariant (`IsOneMap`): keys are distinct, each live pair of both arrays is in its home with its
-//! fingerprint, a killed bucket has no live pair, and no unit of the old array is forgotten.
+//! Invariant (`IsCountedMap`): `count` is the number of pairs, at most 2^64 - 1, and (`IsOneMap`)
+//! keys are distinct, each live pair of both arrays is in its home with its fingerprint, a killed
+//! bucket has no live pair, and no unit of the old array is forgotten.
 //!
 //! Ports scc's `src/hash_table.rs`. The table owns its arrays, and a lock is a borrow.
 ghost use Rattle.std.specs.Prelude.{◌≡◌, ◌↔◌, ◌<◌, ◌≤◌, ◌*◌, ◌^◌, [], IsTrue, MatchOption, length};
@@ -88,24 +89,28 @@ pub enum Vacancy {
 /// the call finds them too.
 ///
 /// One unit is worked by each call by key or by a probe that borrows the table mutably, except
-/// `put_vacant`, and by `reader_sync`, `fetch_home`, `find`, `writer_sync`, `try_reserve_bucket`,
-/// `optional_writer_sync`, `num_entries` and `has_entry`. Walks and cursors work one before each
-/// bucket, and move the pairs of the bucket's sources. `finish_rehash` works all units. In costs,
-/// `unit` stands for the slots of the unit, of the sources and of their targets.
+/// `put_vacant`, and by `reader_sync`, `fetch_home`, `find`, `find_or_grow`, `writer_sync`,
+/// `try_reserve_bucket`, `optional_writer_sync`, `num_entries` and `has_entry`. Walks and cursors
+/// work one before each bucket, and move the pairs of the bucket's sources. `finish_rehash` works
+/// all units. In costs, `unit` stands for the slots of the unit, of the sources and of their
+/// targets.
 #[derive(Drop)]
 pub struct HashTable<K: Eq, V, H: KeyHash<K>, L: LruList, const TYPE: u8> {
     pub(crate) hasher: H,
     pub(crate) arrays: Arrays<K, V, L, TYPE>,
+    pub(crate) count: usize,
 }
 
 impl<K: Eq, V, H: KeyHash<K>, L: LruList, const TYPE: u8> Model for HashTable<K, V, H, L, TYPE> {
-    ghost use Rattle.bucket_table.specs.Views.ArraysView.{IsOneMap, TableView};
+    ghost use Rattle.bucket_table.specs.Views.ArraysView.{TableView};
+    ghost use Rattle.bucket_table.specs.Map.Counting.{IsCountedMap};
 
     ghost Value = { TableView K V H };
 
     ghost view = { λ table. record { hasher = table.hasher; arrays = table.arrays } };
 
-    ghost invariant = { λ table. IsOneMap K.eq (H.hash_of table.hasher) table.arrays };
+    ghost invariant = { λ table. IsCountedMap K.eq (H.hash_of table.hasher) table.arrays
+        table.count };
 }
 
 impl<K: Eq, V, H: KeyHash<K>, L: LruList, const TYPE: u8> HashTable<K, V, H, L, TYPE> {
@@ -129,6 +134,7 @@ impl<K: Eq, V, H: KeyHash<K>, L: LruList, const TYPE: u8> HashTable<K, V, H, L, 
         HashTable {
             hasher,
             arrays: Arrays::new(alloc, minimum, maximum),
+            count: 0,
         }
     }
 

@@ -17,7 +17,8 @@ use Rattle.bucket_slots.specs.Homes.{IsHome, Meets}
 use Rattle.bucket_slots.specs.Slots.{Slot, free, free_len, is_free, is_live, is_marked, live, live_pairs, marked, marked_len}
 use Rattle.bucket_slots.proofs.CallerLemmas.{free_len_in-none, homes_meet, length-entries_in, length-live_pairs, one_source, scales, tally}
 use Rattle.bucket_table.specs.Map.ByKey.{HasNoSlot, Inserts, InsertsAt, Upserts, UpsertsAt}
-use Rattle.bucket_table.specs.Map.Finding.{Finds, FindsBucket, FindsThen, MakesReady, ReadiesThenGrows}
+use Rattle.bucket_table.specs.Map.Finding.{Finds, FindsThen, MakesReady}
+use Rattle.bucket_table.specs.Map.FindingGrown.{FindsOrGrows, FindsOrGrowsThen, FindsRoom, ReadiesOrGrows}
 use Rattle.bucket_table.specs.Map.MapState.{KeepsPairs, state_of}
 use Rattle.bucket_table.specs.Map.Preparing.{HomeWantsMemory}
 use Rattle.bucket_table.specs.Map.Putting.{Puts, PutsAt}
@@ -113,7 +114,7 @@ ready_len {K} {V} old index ready makes stands = elim (cases_lt 0 (length old.li
 
 -- and so has the array in which a bucket was found for a writer
 pub found_len : {K V : Type 0} (kind hash : ℕ) (old : ArraysView K V) (side : Side) (index : ℕ) (new : ArraysView K V)
-    → ReadiesThenGrows kind hash old side index new → 0 < length old.current → length (buckets_on new side) ≡ length old.current
+    → ReadiesOrGrows kind hash old side index new → 0 < length old.current → length (buckets_on new side) ≡ length old.current
 found_len kind hash old side index new readies stands =
     let is = found kind hash old side index new readies in
     ap length (same_buckets side is.ready new is.grown) ∙ ready_len old index is.ready is.makes stands
@@ -163,7 +164,7 @@ module _ {K V H : Type 0} (kind : ℕ) (hash_of : H → K → ℕ) (key : K) (n 
       subst (λ (i : ℕ). IsBucketOf kind (bucket_at new.arrays.linked i)) (home.the_one kept.index kept.home.own) kept.laws
 
   -- a bucket that was found had no free slot
-  pub found_full : kind ≢ INDEX → (side : Side) (index : ℕ) → FindsBucket kind n old side index new
+  pub found_full : kind ≢ INDEX → (side : Side) (index : ℕ) → FindsRoom kind n old side index new
       → first_place is_free (bucket_on new.arrays side index) ≡ None → LacksRoom hash_of key (map_of old)
   unfolding LacksRoom
   found_full other side index found none = elim (cases_lt 0 (length old.arrays.current)) [
@@ -236,11 +237,11 @@ module _ {K V H : Type 0} (kind : ℕ) (hash_of : H → K → ℕ) (key : K) (n 
 -- a table in which a bucket was looked for, and that is as it was then
 module _ {K V H : Type 0} (kind : ℕ) (hash_of : H → K → ℕ) (key : K) (old between new : TableView K V H)
     (kept : KeepsPairs (state_of kind old) (state_of kind new)) (is : new ≡ between) where
-  pub found_some : (side : Side) (index : ℕ) → FindsBucket kind (hash_of old.hasher key) old side index between
-      → FindsBucket kind (hash_of new.hasher key) old side index new
+  pub found_some : (side : Side) (index : ℕ) → FindsRoom kind (hash_of old.hasher key) old side index between
+      → FindsRoom kind (hash_of new.hasher key) old side index new
   found_some side index found =
-      subst (λ (h : H). FindsBucket kind (hash_of h key) old side index new) (sym (hasher_kept _ _ kept))
-      (subst (λ (t : TableView K V H). FindsBucket kind (hash_of old.hasher key) old side index t) (sym is) found)
+      subst (λ (h : H). FindsRoom kind (hash_of h key) old side index new) (sym (hasher_kept _ _ kept))
+      (subst (λ (t : TableView K V H). FindsRoom kind (hash_of old.hasher key) old side index t) (sym is) found)
 
   pub found_none : IsRefused kind (hash_of old.hasher key) old between → IsRefused kind (hash_of new.hasher key) old new
   found_none refused =
@@ -275,7 +276,7 @@ module _ {K V H : Type 0} (hash_of : H → K → ℕ) (key : K) (old new : Table
     (current : 0 < length new.arrays.current → KeepsHome 83 (hash_of new.hasher key) new.arrays.current)
     (linked : 0 < length new.arrays.linked → KeepsHome 83 (hash_of new.hasher key) new.arrays.linked) (keeps : ℕ → Bool) where
   refused_by : (answer : Result (Side × ℕ) (Unit {0})) (between : TableView K V H) → KeepsPairs (state_of 83 old) (state_of 83 new)
-      → Finds 83 (hash_of old.hasher key) old answer between → new ≡ between
+      → FindsOrGrows 83 (hash_of old.hasher key) old answer between → new ≡ between
       → IfOk answer (λ at. HasNoSlot 83 keeps (bucket_on between.arrays at.0 at.1)) → LacksRoom hash_of key (map_of old)
   refused_by (Ok at) between kept finds is none =
       found_full 83 hash_of key (hash_of new.hasher key) old new refl placed current linked (λ e. omega arith) at.0 at.1
@@ -287,7 +288,7 @@ module _ {K V H : Type 0} (hash_of : H → K → ℕ) (key : K) (old new : Table
 
   module _ (value : V) where
     inserted_by : (A : Type 0) (k : K) (v : V) (answer : Result (Side × ℕ) (Unit {0})) (between : TableView K V H)
-        → KeepsPairs (state_of 83 old) (state_of 83 new) → Finds 83 (hash_of old.hasher key) old answer between
+        → KeepsPairs (state_of 83 old) (state_of 83 new) → FindsOrGrows 83 (hash_of old.hasher key) old answer between
         → InsertsAt {A = A} 83 keeps (key, value) (hash_of old.hasher key % 256) between (Err (Memory k v)) answer new
         → LacksRoom hash_of key (map_of old)
     inserted_by A k v (Ok at) between kept found done = refused_by (Ok at) between kept found done.1 done.0
@@ -296,7 +297,7 @@ module _ {K V H : Type 0} (hash_of : H → K → ℕ) (key : K) (old new : Table
     -- a pair that came back from an insertion
     pub insertion_lacks : {A : Type 0} (eq : K → K → Bool) (result : Result A (NotInserted K V)) (k : K) (v : V)
         → Inserts eq key value (state_of 83 old) result (state_of 83 new)
-        → FindsThen 83 (hash_of old.hasher key) old
+        → FindsOrGrowsThen 83 (hash_of old.hasher key) old
         (λ answer between. InsertsAt 83 keeps (key, value) (hash_of old.hasher key % 256) between result answer new)
         → result ≡ Err (Memory k v) → LacksRoom hash_of key (map_of old)
     insertion_lacks {A} eq result k v map finds is =
@@ -306,14 +307,14 @@ module _ {K V H : Type 0} (hash_of : H → K → ℕ) (key : K) (old new : Table
         InsertsAt 83 keeps (key, value) (hash_of old.hasher key % 256) finds.between r finds.answer new) is finds.done)
 
     upserted_by : (eq : K → K → Bool) (back : K × V) (answer : Result (Side × ℕ) (Unit {0})) (between : TableView K V H)
-        → KeepsPairs (state_of 83 old) (state_of 83 new) → Finds 83 (hash_of old.hasher key) old answer between
+        → KeepsPairs (state_of 83 old) (state_of 83 new) → FindsOrGrows 83 (hash_of old.hasher key) old answer between
         → UpsertsAt eq 83 keeps key value (hash_of old.hasher key % 256) between (Err back) answer new → LacksRoom hash_of key (map_of old)
     upserted_by eq back (Ok at) between kept found done = refused_by (Ok at) between kept found done.1 done.0
     upserted_by eq back (Err e) between kept found done = refused_by (Err e) between kept found done tt
 
     -- and from one that would have written its value beside an equal key
     pub upsertion_lacks : (eq : K → K → Bool) (back : K × V) → Upserts eq key value (state_of 83 old) (Err back) (state_of 83 new)
-        → FindsThen 83 (hash_of old.hasher key) old
+        → FindsOrGrowsThen 83 (hash_of old.hasher key) old
         (λ answer between. UpsertsAt eq 83 keeps key value (hash_of old.hasher key % 256) between (Err back) answer new)
         → LacksRoom hash_of key (map_of old)
     upsertion_lacks eq back map finds = upserted_by eq back finds.answer finds.between map.2 finds.found finds.done

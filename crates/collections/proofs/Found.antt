@@ -1,10 +1,12 @@
 -- What the arrays are where a bucket was found for a writer: they were made ready, and may have grown then.
 use Rattle.bucket_table.specs.declared.arrays.side.Side.{Side}
 use Rattle.bucket_table.specs.declared.arrays.side.Side.TheVariants.{Current, Old}
-use Rattle.std.proofs.Common.{ℕ, ◌≡◌, inl, inr, length, refl, arith}
+use Rattle.std.proofs.Common.{ℕ, ◌≡◌, ◌*◌, inl, inr, length, refl, subst, sym, arith}
 use Rattle.std.proofs.lemmas.Bool.{cases_lt}
 use Rattle.bucket_table.specs.Map.Finding.{MakesReady, ReadiesThenGrows}
+use Rattle.bucket_table.specs.Map.FindingGrown.{ReadiesOrGrows}
 use Rattle.bucket_table.specs.Resize.Growing.{Grows}
+use Rattle.bucket_table.specs.Resize.Overfull.{GrowsOverfull}
 use Rattle.bucket_table.specs.Views.ArraysView.{ArraysView}
 use Rattle.bucket_table.specs.Views.Keeping.{Keeps}
 use Rattle.bucket_table.specs.Views.Sides.{buckets_on}
@@ -17,10 +19,25 @@ module _ {K V : Type 0} where
     pub makes : MakesReady old index ready
     pub grown : Grows side ready new
 
+  -- a bucket that is overfull is ready
+  pub overfull_ready : (hash index : ℕ) (old new : ArraysView K V) → GrowsOverfull hash old new → MakesReady old index old
+  overfull_ready hash index old new grows =
+      let alone = grows.overfull.bucket.alone in record {
+        first = λ none. (λ stands. refl, λ lacks. absurd (omega (arith, lacks, grows.overfull.bucket.home.within)));
+        beside = λ some. absurd (omega (arith, some, alone));
+        units = record { stands = λ some. absurd (omega (arith, some, alone)); only = λ i alive. inr alive };
+        killed = λ i below source. absurd (omega (arith, below, alone));
+      }
+
   pub found : (kind hash : ℕ) (old : ArraysView K V) (side : Side) (index : ℕ) (new : ArraysView K V)
-      → ReadiesThenGrows kind hash old side index new → IsFound old side index new
+      → ReadiesOrGrows kind hash old side index new → IsFound old side index new
   unfolding ReadiesThenGrows
-  found kind hash old side index new readies = record { ready = readies.0; makes = readies.1; grown = readies.3 }
+  found kind hash old side index new (inl readies) = record { ready = readies.0; makes = readies.1; grown = readies.3 }
+  found kind hash old side index new (inr (on, grows)) = record {
+    ready = old;
+    makes = overfull_ready hash index old new grows;
+    grown = subst (λ (s : Side). Grows s old new) (sym on) (64 * length old.current, grows.pushed);
+  }
 
   -- the same map
   pub ready_keeps : (old : ArraysView K V) (index : ℕ) (ready : ArraysView K V) → MakesReady old index ready → Keeps old ready

@@ -12,7 +12,7 @@ use Rattle.bucket_slots.specs.Homes.{IsHome}
 use Rattle.bucket_slots.specs.Slots.{Slot, free, free_len, is_free, live, live_pairs, marked, marked_entries, marked_entry}
 use Rattle.bucket_slots.proofs.CallerLemmas.{free_len_in-none, length-live_pairs-append, tally}
 use Rattle.bucket_table.specs.Map.ByKey.{HasNoSlot, Inserts, InsertsAt}
-use Rattle.bucket_table.specs.Map.Finding.{Finds, FindsThen}
+use Rattle.bucket_table.specs.Map.FindingGrown.{FindsOrGrows, FindsOrGrowsThen}
 use Rattle.bucket_table.specs.Map.MapState.{KeepsPairs, state_of}
 use Rattle.bucket_table.specs.Views.ArraysView.{ArePlaced, TableView}
 use Rattle.bucket_table.specs.Views.Sides.{bucket_on, buckets_on}
@@ -103,7 +103,7 @@ module _ {K V H : Type 0} (hash_of : H → K → ℕ) (key : K) (old new : Table
     (current : 0 < length new.arrays.current → KeepsHome 79 (hash_of new.hasher key) new.arrays.current)
     (linked : 0 < length new.arrays.linked → KeepsHome 79 (hash_of new.hasher key) new.arrays.linked) (keeps : ℕ → Bool) (value : V) where
   inserted_by : (A : Type 0) (k : K) (v : V) (answer : Result (Side × ℕ) (Unit {0})) (between : TableView K V H)
-      → KeepsPairs (state_of 79 old) (state_of 79 new) → Finds 79 (hash_of old.hasher key) old answer between
+      → KeepsPairs (state_of 79 old) (state_of 79 new) → FindsOrGrows 79 (hash_of old.hasher key) old answer between
       → InsertsAt {A = A} 79 keeps (key, value) (hash_of old.hasher key % 256) between (Err (Memory k v)) answer new
       → LacksSlots keeps hash_of key old new
   unfolding LacksSlots
@@ -131,7 +131,7 @@ module _ {K V H : Type 0} (hash_of : H → K → ℕ) (key : K) (old new : Table
   -- a pair that came back from an insertion for want of memory
   pub index_lacks : {A : Type 0} (eq : K → K → Bool) (result : Result A (NotInserted K V)) (k : K) (v : V)
       → Inserts eq key value (state_of 79 old) result (state_of 79 new)
-      → FindsThen 79 (hash_of old.hasher key) old
+      → FindsOrGrowsThen 79 (hash_of old.hasher key) old
       (λ answer between. InsertsAt 79 keeps (key, value) (hash_of old.hasher key % 256) between result answer new)
       → result ≡ Err (Memory k v) → LacksSlots keeps hash_of key old new
   index_lacks {A} eq result k v map finds is =

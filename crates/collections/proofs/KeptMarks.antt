@@ -10,7 +10,7 @@ use Rattle.bucket_slots.specs.BucketView.{BucketView, empty_bucket, marks_in}
 use Rattle.bucket_slots.specs.Marking.{HasNoNewMark}
 use Rattle.bucket_slots.proofs.CallerLemmas.{no_new-trans}
 use Rattle.bucket_table.specs.Map.ByKey.{InsertsAt}
-use Rattle.bucket_table.specs.Map.Finding.{Finds}
+use Rattle.bucket_table.specs.Map.FindingGrown.{FindsOrGrows}
 use Rattle.bucket_table.specs.Rehash.Relocation.{marks_among}
 use Rattle.bucket_table.specs.Resize.Growing.{Grows}
 use Rattle.bucket_table.specs.Views.ArraysView.{ArraysView, TableView, marks_of}
@@ -64,7 +64,7 @@ module _ {K V : Type 0} (keeps : ℕ → Bool) where
       grown Current same = ap (λ (a : ArraysView K V). marks_of a) same
 
   module _ {H : Type 0} (kind hash byte : ℕ) (pair : K × V) (old between new : TableView K V H) where
-    found_kept : {E : Type 0} (answer : Result (Side × ℕ) E) → Finds kind hash old answer between
+    found_kept : {E : Type 0} (answer : Result (Side × ℕ) E) → FindsOrGrows kind hash old answer between
         → length old.arrays.linked ≡ 0 → kept keeps (marks_of between.arrays) ≡ kept keeps (marks_of old.arrays)
     found_kept (Ok at) finds none =
         let is = found kind hash old.arrays at.0 at.1 between.arrays finds.found in
@@ -80,7 +80,7 @@ module _ {K V : Type 0} (keeps : ℕ → Bool) where
     inserted_at (Err (Memory k v)) (Ok at) (full, same) = rw same refl
     inserted_at (Err (Memory k v)) (Err e) same = rw same refl
 
-    found_current : {E : Type 0} (answer : Result (Side × ℕ) E) → Finds kind hash old answer between
+    found_current : {E : Type 0} (answer : Result (Side × ℕ) E) → FindsOrGrows kind hash old answer between
         → HasNoNewMark (marks_of between.arrays) (marks_among old.arrays.current)
     found_current (Ok at) finds =
         let is = found kind hash old.arrays at.0 at.1 between.arrays finds.found in
@@ -91,7 +91,7 @@ module _ {K V : Type 0} (keeps : ℕ → Bool) where
 
     -- what the table inserts
     pub inserted_keeps : {A : Type 0} (r : Result A (NotInserted K V)) (answer : Result (Side × ℕ) (Unit {0}))
-        → Finds kind hash old answer between → InsertsAt kind keeps pair byte between r answer new
+        → FindsOrGrows kind hash old answer between → InsertsAt kind keeps pair byte between r answer new
         → LosesNoKeptMark keeps old.arrays new.arrays
     inserted_keeps r answer finds inserts = record {
       current = λ mark has stays. kept_stand keeps (marks_of between.arrays) (marks_of new.arrays) (inserted_at r answer inserts) mark

@@ -62,7 +62,7 @@ module _ {K V H : Type 0} (hash : ℕ) (old new : TableView K V H) where
         (between : TableView K V H) → Finds 67 hash old answer between → PutsAt true pair (hash % 256) between r answer new
         → PutsOrKeeps eq pair hash old r new.arrays
     puts_home pair (Ok went) (Ok at) between finds puts =
-        let is = found 67 hash old.arrays at.0 at.1 between.arrays finds.found in
+        let is = found 67 hash old.arrays at.0 at.1 between.arrays (inl finds.found) in
         let same = same_buckets at.0 is.ready between.arrays is.grown in
         let here : bucket_on between.arrays at.0 at.1 ≡ bucket_at is.ready.current at.1 = ap (λ bs. bucket_at bs at.1) same in
         let after : BucketView K V → BucketView K V = λ bucket. slots_put true (slots_left bucket went) pair (hash % 256) in
@@ -80,7 +80,7 @@ module _ {K V H : Type 0} (hash : ℕ) (old new : TableView K V H) where
         }
     puts_home pair (Ok went) (Err e) between finds none = absurd none
     puts_home pair (Err (Present k v)) (Ok at) between finds same =
-        let is = found 67 hash old.arrays at.0 at.1 between.arrays finds.found in
+        let is = found 67 hash old.arrays at.0 at.1 between.arrays (inl finds.found) in
         rw same (found_leaves old.arrays at.0 at.1 between.arrays is)
     puts_home pair (Err (Present k v)) (Err e) between finds same = rw same (none_leaves between finds)
     puts_home pair (Err (Memory k v)) (Ok at) between finds none = absurd none

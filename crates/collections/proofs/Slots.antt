@@ -14,14 +14,14 @@ use Rattle.bucket_slots.specs.Clearing.{slots_after_insertion}
 use Rattle.bucket_slots.specs.Slots.{live_pair}
 use Rattle.bucket_slots.proofs.CallerLemmas.{entries_in-slots_after_insertion, length-entries_in, rewritten}
 use Rattle.bucket_table.specs.Map.ByKey.{ChangesAt, Inserts, InsertsAt, PreparesThen, ShrinksAt, Upserts, UpsertsAt, WritesAt}
-use Rattle.bucket_table.specs.Map.Finding.{Finds, FindsBucket, MakesReady, ReadiesThenGrows}
+use Rattle.bucket_table.specs.Map.Finding.{MakesReady, ReadiesThenGrows}
+use Rattle.bucket_table.specs.Map.FindingGrown.{FindsOrGrows, FindsRoom}
 use Rattle.bucket_table.specs.Map.MapState.{ChangesValue, KeepsPairs, state_of}
 use Rattle.bucket_table.specs.Map.Preparing.{IsPrepared}
 use Rattle.bucket_table.specs.Rehash.Relocation.{home_of, homed_len}
-use Rattle.bucket_table.specs.Rehash.State.{first_tickets}
 use Rattle.bucket_table.specs.Rehash.Units.{WorksUnits}
 use Rattle.bucket_table.specs.Resize.Asking.{AsksShrinking, RemovesAndShrinks}
-use Rattle.bucket_table.specs.Resize.Resizing.{TriesResize}
+use Rattle.bucket_table.specs.Resize.Resizing.{IsPushed, TriesResize}
 use Rattle.bucket_table.specs.Resize.Growing.{Grows}
 use Rattle.bucket_table.specs.Views.ArraysView.{ArePlaced, ArraysView, TableView, pairs_of}
 use Rattle.bucket_table.specs.Views.Sides.{arrays_with, bucket_on, buckets_on, with_bucket}
@@ -34,6 +34,7 @@ use Rattle.collections.specs.Crowding.{HasAtHome}
 use Rattle.collections.specs.Maps.{MapView, map_of}
 use Rattle.collections.specs.Slots.{ChangesSlots, GrowsSlots, KeepsSlots, LosesSlots, MakesSlots, ShrinksSlots}
 use Rattle.collections.proofs.Crowding.{at_home, ready_len}
+use Rattle.collections.proofs.Found.{overfull_ready}
 
 module _ {K V : Type 0} where
   -- another bucket leaves as many
@@ -109,13 +110,47 @@ module _ {K V H : Type 0} (old new : TableView K V H) where
         let many = rw (current, linked) at full.1 in
         omega (arith, many)
 
+    -- arrays that grew where a bucket was nearly full
+    pushed_grows : (between : ArraysView K V) (index capacity : ℕ) (ready : ArraysView K V) → MakesReady old.arrays index ready
+        → IsPushed capacity ready between → AreAsLong between new.arrays → 31 ≤ length (pairs_in (bucket_at ready.current index))
+        → (31 ≤ length (pairs_in (bucket_at between.linked index)) → IsNearlyFull (length between.linked))
+        → ChangesSlots (hash_of old.hasher) key (map_of old) (map_of new)
+    pushed_grows between index capacity ready makes pushed long many full =
+        let array : between.linked ≡ ready.current = ap (λ (a : ArraysView K V). a.linked) pushed.new_is in
+        let nearly = full (subst (λ (bs : List (BucketView K V)). 31 ≤ length (pairs_in (bucket_at bs index))) (sym array) many) in
+        let len : length between.linked ≡ length old.arrays.current = ap length array ∙ current_len nearly in
+        record {
+          crowded = subst (λ (n : ℕ). IsNearlyFull n) len nearly;
+          old_slots = omega (arith, len, long.linked);
+          slots = omega (arith, beside (omega (arith, len, long.linked, nearly.0)));
+        }
+      where
+        current_len : IsNearlyFull (length between.linked) → length ready.current ≡ length old.arrays.current
+        current_len nearly = elim (cases_lt 0 (length old.arrays.current)) [
+          | inl stands ↦ ready_len old.arrays index ready makes stands
+          | inr none ↦ elim (cases_lt 0 (length old.arrays.linked)) [
+            | inl some ↦ (makes.beside some).current_len
+            | inr alone ↦ absurd (no_home (length between.linked) (omega (arith, none)) (omega (arith, alone)) nearly)
+          ]
+        ]
+
     -- a bucket that was found, where the pairs in it have it as their home
-    pub found_grows : (kind hash : ℕ) (between : TableView K V H) (side : Side) (index : ℕ) → FindsBucket kind hash old side index between
+    pub found_grows : (kind hash : ℕ) (between : TableView K V H) (side : Side) (index : ℕ) → FindsRoom kind hash old side index between
         → AreAsLong between.arrays new.arrays
         → (side ≡ Old → 31 ≤ length (pairs_in (bucket_on between.arrays Old index)) → IsNearlyFull (length between.arrays.linked))
         → GrowsSlots hash_of key (map_of old) (map_of new)
     unfolding ReadiesThenGrows GrowsSlots
-    found_grows kind hash between side index finds long full = from finds.found
+    found_grows kind hash between side index finds long full = elim finds.found [
+      | inl readies ↦ from readies
+      | inr (on, grows) ↦
+          let home = subst (λ (s : Side). IsHome (length (buckets_on between.arrays s)) hash index) on finds.home in
+          let same : length between.arrays.linked ≡ length old.arrays.current =
+          ap (λ (a : ArraysView K V). length a.linked) grows.pushed.new_is in
+          let here : grows.overfull.bucket.index ≡ index = sym (grows.overfull.bucket.home.the_one index (rw same at home.own)) in
+          let many = rw here at grows.overfull.bucket.full in
+          inr (inr (pushed_grows between.arrays index _ old.arrays (overfull_ready hash index old.arrays between.arrays grows) grows.pushed
+          long (omega (arith, many)) (full on)))
+    ]
       where
         from : ReadiesThenGrows kind hash old.arrays side index between.arrays → GrowsSlots hash_of key (map_of old) (map_of new)
         from (ready, makes, resizes, grown) = by_side side refl grown
@@ -131,36 +166,11 @@ module _ {K V H : Type 0} (old new : TableView K V H) where
                   | inr made ↦ inr (inl made)
                 ]
             by_side Old is (capacity, pushed) = elim resizes [
-              | inl asked ↦ inr (inr (changed pushed.new_is asked.0.full))
+              | inl asked ↦ inr (inr (pushed_grows between.arrays index capacity ready makes pushed long asked.0.full (full is)))
               | inr stays ↦
                   let within = subst (λ (s : Side). index < length (buckets_on between.arrays s)) is finds.home.within in
                   absurd (omega (arith, within, ap (λ (a : ArraysView K V). length a.linked) stays.1, pushed.alone))
             ]
-              where
-                changed : between.arrays ≡ record ready {
-                  current = pushed.fresh;
-                  linked = ready.current;
-                  tickets = first_tickets (length ready.current);
-                } → 31 ≤ length (pairs_in (bucket_at ready.current index)) → ChangesSlots (hash_of old.hasher) key (map_of old) (map_of new)
-                changed pushed_is many =
-                    let array : between.arrays.linked ≡ ready.current = ap (λ (a : ArraysView K V). a.linked) pushed_is in
-                    let nearly = full is (subst (λ (bs : List (BucketView K V)). 31 ≤ length (pairs_in (bucket_at bs index)))
-                    (sym array) many) in
-                    let len : length between.arrays.linked ≡ length old.arrays.current = ap length array ∙ current_len nearly in
-                    record {
-                      crowded = subst (λ (n : ℕ). IsNearlyFull n) len nearly;
-                      old_slots = omega (arith, len, long.linked);
-                      slots = omega (arith, beside (omega (arith, len, long.linked, nearly.0)));
-                    }
-                  where
-                    current_len : IsNearlyFull (length between.arrays.linked) → length ready.current ≡ length old.arrays.current
-                    current_len nearly = elim (cases_lt 0 (length old.arrays.current)) [
-                      | inl stands ↦ ready_len old.arrays index ready makes stands
-                      | inr none ↦ elim (cases_lt 0 (length old.arrays.linked)) [
-                        | inl some ↦ (makes.beside some).current_len
-                        | inr alone ↦ absurd (no_home (length between.arrays.linked) (omega (arith, none)) (omega (arith, alone)) nearly)
-                      ]
-                    ]
 
 module _ {K V : Type 0} where
   -- an insertion into a bucket is one pair more there
@@ -343,7 +353,7 @@ module _ {K V H : Type 0} (hash_of : H → K → ℕ) (key : K) (old new : Table
 
   -- a pair was put into the bucket that was found
   pub added_grows : (kind : ℕ) (keeps : ℕ → Bool) (value : V) (between : TableView K V H) (side : Side) (index byte : ℕ)
-      → FindsBucket kind (hash_of old.hasher key) old side index between → old.hasher ≡ new.hasher
+      → FindsRoom kind (hash_of old.hasher key) old side index between → old.hasher ≡ new.hasher
       → IsPermutation ((key, value) ∷ pairs_of old.arrays) (pairs_of new.arrays)
       → new ≡ with_bucket between side index (slots_after_insertion kind keeps (bucket_on between.arrays side index) (key, value) byte)
       → GrowsSlots hash_of key (map_of old) (map_of new)
@@ -370,7 +380,7 @@ module _ {K V H : Type 0} (hash_of : H → K → ℕ) (key : K) (old new : Table
 
   -- a bucket was found, and the pairs stay
   pub kept_grows : (kind : ℕ) (answer : Result (Side × ℕ) (Unit {0})) (between : TableView K V H)
-      → Finds kind (hash_of old.hasher key) old answer between → KeepsPairs (state_of kind old) (state_of kind new) → new ≡ between
+      → FindsOrGrows kind (hash_of old.hasher key) old answer between → KeepsPairs (state_of kind old) (state_of kind new) → new ≡ between
       → GrowsSlots hash_of key (map_of old) (map_of new)
   unfolding GrowsSlots
   kept_grows kind (Err e) between refused kept is =
@@ -394,7 +404,7 @@ module _ {K V H : Type 0} (hash_of : H → K → ℕ) (key : K) (old new : Table
   module _ (eq : K → K → Bool) (kind : ℕ) (keeps : ℕ → Bool) (value : V) where
     -- what an insertion did
     pub insertion_grows : {A : Type 0} (r : Result A (NotInserted K V)) (answer : Result (Side × ℕ) (Unit {0})) (between : TableView K V H)
-        → Finds kind (hash_of old.hasher key) old answer between
+        → FindsOrGrows kind (hash_of old.hasher key) old answer between
         → InsertsAt kind keeps (key, value) (hash_of old.hasher key % 256) between r answer new
         → Inserts eq key value (state_of kind old) r (state_of kind new) → GrowsSlots hash_of key (map_of old) (map_of new)
     insertion_grows (Ok done) (Ok at) between finds is map =
@@ -406,7 +416,7 @@ module _ {K V H : Type 0} (hash_of : H → K → ℕ) (key : K) (old new : Table
     insertion_grows (Err (Memory k v)) (Err e) between finds is map = kept_grows kind (Err e) between finds map.1 is
 
     rewritten_grows : (answer : Result (Side × ℕ) (Unit {0})) (between : TableView K V H)
-        → Finds kind (hash_of old.hasher key) old answer between
+        → FindsOrGrows kind (hash_of old.hasher key) old answer between
         → ChangesAt (λ own. eq own key) (λ bucket at. bucket_with_value bucket at value) true between new → (pair : K × V)
         → ChangesValue (state_of kind old) pair value (state_of kind new) → GrowsSlots hash_of key (map_of old) (map_of new)
     unfolding GrowsSlots
@@ -437,7 +447,7 @@ module _ {K V H : Type 0} (hash_of : H → K → ℕ) (key : K) (old new : Table
 
     -- and one that would write its value beside an equal key
     pub upsertion_grows : (r : Result (Option V) (K × V)) (answer : Result (Side × ℕ) (Unit {0})) (between : TableView K V H)
-        → Finds kind (hash_of old.hasher key) old answer between
+        → FindsOrGrows kind (hash_of old.hasher key) old answer between
         → UpsertsAt eq kind keeps key value (hash_of old.hasher key % 256) between r answer new
         → Upserts eq key value (state_of kind old) r (state_of kind new) → GrowsSlots hash_of key (map_of old) (map_of new)
     upsertion_grows (Ok None) (Ok at) between finds is map =

@@ -149,7 +149,7 @@ impl<K: Eq, V, H: KeyHash<K>> HashCache<K, V, H> {
     /// and the pairs of their overflow chains. The current array has no more slots than the
     /// maximum.
     ///
-    /// O(slots / 32). scc: `HashCache::len`.
+    /// O(1); O(slots / 32) if there are more pairs than slots. scc: `HashCache::len`.
     pub fn len(&self) -> usize
         ensures count { result ≡ min (map_len (map_of self.now)) (2 ^ 64 - 1) }
         ensures within { IsHeldBy (pairs_of self.now.arrays)
@@ -158,12 +158,12 @@ impl<K: Eq, V, H: KeyHash<K>> HashCache<K, V, H> {
     {
         self.room.learn();
         self.table.bounded();
-        self.table.len()
+        self.table.bounded_len()
     }
 
     /// Tests whether the cache has no pair.
     ///
-    /// O(slots / 32). scc: `HashCache::is_empty`.
+    /// O(1). scc: `HashCache::is_empty`.
     pub fn is_empty(&self) -> bool
         ensures { IsTrue result ↔ IsEmpty (map_of self.now) }
     {

@@ -119,7 +119,7 @@ impl<K: Eq, V, H: KeyHash<K>> HashIndex<K, V, H> {
 
     /// Returns how many pairs the index has, without tombstones, at most 2^64 - 1.
     ///
-    /// O(slots / 32). scc: `HashIndex::len`.
+    /// O(1). scc: `HashIndex::len`.
     pub fn len(&self) -> usize
         ensures { result ≡ min (map_len (map_of self.now)) (2 ^ 64 - 1) }
     {
@@ -129,7 +129,7 @@ impl<K: Eq, V, H: KeyHash<K>> HashIndex<K, V, H> {
 
     /// Tests whether the index has no pair; a tombstone's pair isn't in it any more.
     ///
-    /// O(slots / 32). scc: `HashIndex::is_empty`.
+    /// O(1). scc: `HashIndex::is_empty`.
     pub fn is_empty(&self) -> bool
         ensures { IsTrue result ↔ IsEmpty (map_of self.now) }
     {
@@ -246,7 +246,7 @@ impl<K: Eq + Drop, V: Drop, H: KeyHash<K>> HashIndex<K, V, H> {
     {
         self.room.learn();
         self.table.sound();
-        let outcome = self.table.insert_pair(key, value, generation);
+        let outcome = self.table.insert_growing(key, value, generation);
         learn_refused(&self.table, &outcome);
         self.table.sound();
         outcome

@@ -116,7 +116,7 @@ impl<K: Eq, V, H: KeyHash<K>> HashMap<K, V, H> {
 
     /// Returns how many pairs the map has, at most 2^64 - 1.
     ///
-    /// O(slots / 32). scc: `HashMap::len`.
+    /// O(1). scc: `HashMap::len`.
     pub fn len(&self) -> usize
         ensures { result ≡ min (map_len self.now) (2 ^ 64 - 1) }
     {
@@ -126,7 +126,7 @@ impl<K: Eq, V, H: KeyHash<K>> HashMap<K, V, H> {
 
     /// Tests whether the map has no pair.
     ///
-    /// O(slots / 32). scc: `HashMap::is_empty`.
+    /// O(1). scc: `HashMap::is_empty`.
     pub fn is_empty(&self) -> bool
         ensures { IsTrue result ↔ IsEmpty self.now }
     {
@@ -192,7 +192,7 @@ impl<K: Eq + Drop, V: Drop, H: KeyHash<K>> HashMap<K, V, H> {
     {
         self.room.learn();
         self.table.sound();
-        let outcome = self.table.insert_pair(key, value, &());
+        let outcome = self.table.insert_growing(key, value, &());
         learn_refused(&self.table, &outcome);
         self.table.sound();
         outcome
@@ -227,7 +227,7 @@ impl<K: Eq + Drop, V: Drop, H: KeyHash<K>> HashMap<K, V, H> {
     {
         self.room.learn();
         self.table.sound();
-        let outcome = self.table.upsert(key, value, &());
+        let outcome = self.table.upsert_growing(key, value, &());
         self.table.sound();
         let earlier = match outcome {
             Ok(earlier) => earlier,

@@ -96,7 +96,7 @@ impl<K: Eq, H: KeyHash<K>> HashSet<K, H> {
 
     /// Returns how many keys the set has, at most 2^64 - 1.
     ///
-    /// O(slots / 32). scc: `HashSet::len`.
+    /// O(1). scc: `HashSet::len`.
     pub fn len(&self) -> usize
         ensures { result ≡ min (map_len self.now) (2 ^ 64 - 1) }
     {
@@ -105,7 +105,7 @@ impl<K: Eq, H: KeyHash<K>> HashSet<K, H> {
 
     /// Tests whether the set has no key.
     ///
-    /// O(slots / 32). scc: `HashSet::is_empty`.
+    /// O(1). scc: `HashSet::is_empty`.
     pub fn is_empty(&self) -> bool
         ensures { IsTrue result ↔ IsEmpty self.now }
     {

@@ -60,7 +60,7 @@ impl Store {
         }
     }
 
-    /// Returns how many sessions there are, those that have expired among them. O(slots / 32).
+    /// Returns how many sessions there are, those that have expired among them. O(1).
     pub fn len(&self) -> usize
         ensures { result ≡ len_of self.now }
     {

@@ -47,6 +47,14 @@ const STORIES: &[Story] = steps! {
         start: steps! { Puts(128, 228), Sees(64, None) }, steps: steps! {
             Resizes(true), Sees(256, Some(0)), Resizes(false), Sees(256, Some(0)),
             Counts(100) } },
+    // 384 slots are eight for each pair, so 256 are doubled, and 512 aren't.
+    Story { name: "a bucket of 48 pairs doubles the slots", hasher: ScriptHash::Zero, minimum: 0,
+        start: steps! { Puts(0, 47), Doubles(0, false), Puts(47, 48), Sees(64, None) },
+        steps: steps! {
+            Doubles(0, true), Sees(128, Some(0)), Doubles(0, false), Reads(0), Sees(128, None),
+            Homes(0, Some((0, 48))), Doubles(18446744073709551615, false), Doubles(0, true),
+            Reads(0), Sees(256, None), Doubles(0, true), Reads(0), Doubles(0, false),
+            Sees(512, None), Counts(48) } },
     Story { name: "a resize that is asked for gives an empty array up", hasher: ScriptHash::Id,
         minimum: 0, start: steps! { Locks(0, 0), Sees(64, None) }, steps: steps! {
             Resizes(true), Sees(0, None), Resizes(false), Sees(0, None) } },

@@ -75,6 +75,8 @@ pub(crate) enum Step {
     Makes(usize),
     /// A resize is asked for, and happens or doesn't.
     Resizes(bool),
+    /// The slots are doubled if the home of a hash is overfull, or aren't.
+    Doubles(u64, bool),
     /// No ticket is open, and so many units are left and worked.
     Finishes(usize),
     /// The pairs of keys from a number on are kept, and so many others are removed.
@@ -143,6 +145,7 @@ fn take(rt: &impl Abort, table: &mut Map, at: At, step: &Step) -> Result<(), Fai
         }
         Step::Makes(len) => check_same(rt, table.get_or_create_array()?.len(), *len, at),
         Step::Resizes(done) => check_same(rt, table.try_resize()?, *done, at),
+        Step::Doubles(hash, done) => check_same(rt, table.grow_if_overfull(*hash)?, *done, at),
         Step::Finishes(units) => check_same(rt, finish(table)?, Some(*units), at),
         Step::Sweeps(from, taken) => {
             let keep = |key: &u64, _value: &u64| *key >= *from;

@@ -131,6 +131,14 @@ pub(crate) fn resize(table: &mut Map, comes: bool) -> Answer {
     }
 }
 
+/// Doubles the slots if the home of a hash is overfull.
+pub(crate) fn double(table: &mut Map, hash: u64, comes: bool) -> Answer {
+    match table.grow_if_overfull(hash) {
+        Ok(done) => right_if(done == comes),
+        Err(_) => Answer::Refused,
+    }
+}
+
 /// Reads a key, which never fails.
 pub(crate) fn read(table: &mut Map, key: u64) -> Answer {
     let found = table.reader_sync(&key, |own: &u64, value: &u64| (*own, *value));

@@ -42,6 +42,8 @@ pub(crate) enum Step {
     Reserves(u64, usize),
     /// A resize is asked for, and happens or doesn't.
     Resizes(bool),
+    /// The slots are doubled if the home of a hash is overfull, or aren't.
+    Doubles(u64, bool),
     /// A key is found, which never fails.
     Reads(u64),
     /// Another value is written over a key's, which never fails.
@@ -119,7 +121,7 @@ const FIVE_BEFORE_THREE: &[Step] = &[
 // The hash of key 160.
 const OF_160: u64 = 160 << 56 | 160;
 
-pub(crate) const CASES: [Case; 21] = [
+pub(crate) const CASES: [Case; 22] = [
     // The script allocates only its replies.
     Case {
         hasher: ScriptHash::Id,
@@ -168,6 +170,12 @@ pub(crate) const CASES: [Case; 21] = [
         hasher: ScriptHash::Spread,
         start: &[Puts(128, 228), Sees((64, None))],
         steps: &[Resizes(true), Sees((256, Some(0))), Resizes(false)],
+        refused: Outcome::AsBefore,
+    },
+    Case {
+        hasher: ScriptHash::Zero,
+        start: &[Puts(0, 48), Sees((64, None))],
+        steps: &[Doubles(0, true), Sees((128, Some(0))), Doubles(0, false)],
         refused: Outcome::AsBefore,
     },
     // The first read allocates only its unit's list. If that fails, the unit isn't finished, and

@@ -100,6 +100,7 @@ fn take(alloc: Global, table: &mut Map, beside: &mut FewKeys, step: &Step) -> An
         Locks(hash, index) => lock(table, *hash, *index),
         Reserves(hash, index) => reserve(table, *hash, *index),
         Resizes(comes) => resize(table, *comes),
+        Doubles(hash, comes) => double(table, *hash, *comes),
         Reads(key) => read(table, *key),
         Writes(key) => write(table, beside, *key),
         Relocates(index, pairs) => relocate(table, *index, *pairs),

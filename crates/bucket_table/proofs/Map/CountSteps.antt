@@ -1,15 +1,16 @@
 -- Counts of pairs, bucket by bucket, and what a table without pairs drops.
-use Rattle.bucket_table.proofs.Words.{All, ArraysView, Bool, BucketView, Err, IsPermutation, Keeps, List, Ok, Result, TableView, ℕ, [], ap}
+use Rattle.bucket_table.proofs.Words.{All, ArraysView, Bool, BucketView, Err, Keeps, List, Ok, Result, TableView, ℕ, [], ap}
 use Rattle.bucket_table.proofs.Words.{arith, bucket_at, counted, counted_to, entries_among, entries_in, entries_of, false, flattened}
 use Rattle.bucket_table.proofs.Words.{get_or, inl, inr, is_live, length, length-entries_in, length-map, length_permutation, live_counts}
-use Rattle.bucket_table.proofs.Words.{live_pairs, map, min, pairs_in, pairs_of, refl, suc, sum_by-cons, sym, take, true, zero, ◌*◌, ◌+◌}
-use Rattle.bucket_table.proofs.Words.{◌-◌, ◌/◌, ◌<◌, ◌^◌, ◌∙◌, ◌∷◌, ◌≡◌}
+use Rattle.bucket_table.proofs.Words.{live_pairs, map, min, nil_from_length, pairs_in, pairs_of, refl, suc, sum_by-cons, take, true, zero}
+use Rattle.bucket_table.proofs.Words.{◌*◌, ◌++◌, ◌+◌, ◌-◌, ◌/◌, ◌<◌, ◌^◌, ◌∙◌, ◌∷◌, ◌≡◌, ◌≤◌}
 use Rattle.bucket_slots.proofs.Counting.{length-live_pairs, length-live_pairs-append}
 use Rattle.bucket_table.specs.Resize.Resizing.{IsPlanOf, TriesResize}
 use Rattle.bucket_table.specs.declared.arrays.plan.Plan.TheVariants.{Resize}
 use Rattle.std.proofs.Common.{length-append, sum, zero-mul}
 use Rattle.std.proofs.lemmas.List.Sums.{count_by-le-length}
 use Rattle.bucket_table.specs.Map.Counting.{IsHeldBy, chained_among}
+use Rattle.bucket_table.specs.Resize.Asking.{ResizesIf}
 use Rattle.bucket_table.specs.Resize.Sampling.{estimate}
 use Rattle.bucket_table.proofs.Resize.GivingUp.{plan_alone, plan_code, plan_stands}
 
@@ -92,17 +93,31 @@ module _ {K V : Type 0} where
   ]
   dropped old new (Err refused) (capacity, is, same) empty least = rw same (refl, refl)
 
-  pub counted_kept : (old new : ArraysView K V) (n : ℕ) → IsPermutation (entries_of old)
-      (entries_of new) → n ≡ counted_to (entries_of new) → n ≡ counted_to (entries_of old)
-  counted_kept old new n moved is = is ∙ ap (λ (k : ℕ). min k (2 ^ 64 - 1)) (length_permutation (entries_of old) (entries_of new) moved)
-
   pub length-pairs_of : (arrays : ArraysView K V) → length (pairs_of arrays) ≡ length (entries_of arrays)
   length-pairs_of arrays = length-map (entries_of arrays) (λ (e : (K × V) × ℕ). e.0)
 
-  -- a count of entries is one of the map's pairs
-  pub counted_pairs : (old new : ArraysView K V) (n : ℕ) → Keeps old new → n ≡ counted_to (entries_of old) → n ≡ counted_to (pairs_of new)
-  counted_pairs old new n kept is = is ∙ ap (λ (k : ℕ). min k (2 ^ 64 - 1)) (sym (length_permutation (entries_of old)
-      (entries_of new) kept.pairs) ∙ sym (length-pairs_of new))
+  -- a count of no more than own slots says that no more pairs than those stand there
+  pub held_by_own : (a : ArraysView K V) {count slots : ℕ} → count ≡ counted_to (pairs_of a) → slots < 2 ^ 64
+      → slots ≡ 32 * length (a.current ++ a.linked) → count ≤ slots → IsHeldBy (pairs_of a) (a.current ++ a.linked)
+  held_by_own a is fits own few = omega (arith, is, fits, own, few)
+
+  -- where none was counted there is none
+  pub none_kept : (old new : ArraysView K V) (n : ℕ) → Keeps old new → n ≡ counted_to (pairs_of old) → n ≡ 0 → entries_of new ≡ []
+  none_kept old new n kept is none =
+      nil_from_length (entries_of new) (omega (arith, length_permutation _ _ kept.pairs, length-pairs_of old, is, none))
+
+  -- and where some were there are some, so nothing is asked for
+  pub some_kept : (old new : ArraysView K V) (n : ℕ) → Keeps old new → n ≡ counted_to (pairs_of old) → (n ≡ 0 → ⊥)
+      → ResizesIf ((entries_of new ≡ []) × (new.minimum ≡ 0)) new new
+  some_kept old new n kept is some = inr (
+    λ asked. some (is ∙ omega (
+      arith,
+      length_permutation _ _ kept.pairs,
+      length-pairs_of old,
+      ap (λ (es : List ((K × V) × ℕ)). length es) asked.0,
+    )),
+    refl,
+  )
 
   no_pairs_of : (arrays : ArraysView K V) → entries_of arrays ≡ [] → pairs_of arrays ≡ []
   no_pairs_of arrays empty = ap (λ (es : List ((K × V) × ℕ)). map (λ (e : (K × V) × ℕ). e.0) es) empty

@@ -1,5 +1,5 @@
 -- All pairs in one array of another length: what the moves on the way leave.
-use Rattle.bucket_table.proofs.Words.{AreArrays, ArePlaced, ArraysView, Bool, Err, IsEquivalence, IsLengthFor, IsOneMap, KeepsArrays}
+use Rattle.bucket_table.proofs.Words.{AreArrays, ArePlaced, ArraysView, Bool, Err, IsEquivalence, IsLengthFor, KeepsArrays}
 use Rattle.bucket_table.proofs.Words.{KeepsPairs, List, Ok, OnOk, Result, TicketState, WantsMemory, ℕ, [], ap, arith, first_tickets, inl}
 use Rattle.bucket_table.proofs.Words.{inr, length, refl, subst, sym, ◌/◌, ◌∙◌, ◌≡◌}
 use Rattle.std.proofs.Common.{max}
@@ -9,7 +9,9 @@ use Rattle.bucket_table.specs.Map.MapState.{state_of}
 use Rattle.bucket_table.specs.Rehash.State.{IsTicketState}
 use Rattle.bucket_table.specs.Resize.Remaking.{IsSettledAt, RehashesTo, unopened}
 use Rattle.bucket_table.specs.Resize.Resizing.{IsPushed}
-use Rattle.bucket_table.proofs.Map.MapKept.{one_map_kept, state_found}
+use Rattle.bucket_table.specs.Map.Counting.{IsCountedMap}
+use Rattle.bucket_table.proofs.Map.Counted.{map_kept}
+use Rattle.bucket_table.proofs.Map.MapKept.{state_found}
 use Rattle.bucket_table.proofs.Moves.CarriedOrder.{order_at_other_tickets}
 use Rattle.bucket_table.proofs.Resize.Following.{pushed_keeps, rehash_begun}
 use Rattle.bucket_table.proofs.Views.Keeping.{keeps_both}
@@ -129,10 +131,12 @@ module _ {K V E : Type 0} (capacity : ℕ) (old second : ArraysView K V) (first 
 module _ {K V E : Type 0} (capacity : ℕ) (old : ArraysView K V) (answer : Result (Unit {0}) E) (new : ArraysView K V)
     (done : RehashesTo capacity old answer new) where
   -- the arrays are one map still
-  pub one_map_remade : (eq : K → K → Bool) → IsEquivalence eq → (hash : K → ℕ) → IsOneMap eq hash old → ArePlaced hash new
-      → IsOneMap eq hash new
-  one_map_remade eq laws hash one placed = one_map_kept eq laws hash (unopened old) new
-      (record { distinct = one.distinct; placed = unopened_placed hash old one.placed }) done.kept placed
+  pub counted_remade : (eq : K → K → Bool) → IsEquivalence eq → (hash : K → ℕ) {count : ℕ} → IsCountedMap eq hash old count
+      → ArePlaced hash new → IsCountedMap eq hash new count
+  counted_remade eq laws hash was placed = map_kept eq laws hash (unopened old) new (record {
+    one_map = record { distinct = was.one_map.distinct; placed = unopened_placed hash old was.one_map.placed };
+    counted = was.counted;
+  }) done.kept placed
 
   pub map_remade : {H : Type 0} (kind : ℕ) (hasher : H)
       → KeepsPairs (state_of kind (record { hasher = hasher; arrays = old })) (state_of kind (record { hasher = hasher; arrays = new }))

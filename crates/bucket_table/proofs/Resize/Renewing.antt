@@ -1,6 +1,6 @@
 -- A cache's new array, and what it is once all pairs are in.
 use Rattle.bucket_table.proofs.Words.{ArraysView, Bool, IsDistinct, IsDistinct-IsPermutation, IsEquivalence, IsLengthFor, IsNewArray}
-use Rattle.bucket_table.proofs.Words.{IsOneMap, IsPermutation, IsPermutation-map, IsPermutation-trans, List, TableView, ℕ, [], ap}
+use Rattle.bucket_table.proofs.Words.{IsPermutation, IsPermutation-map, IsPermutation-trans, List, TableView, ℕ, [], ap}
 use Rattle.bucket_table.proofs.Words.{append-nil, arith, first_tickets, length, length_permutation, map, nil_from_length, pairs_of, refl}
 use Rattle.bucket_table.proofs.Words.{subst, sym, ◌*◌, ◌++◌, ◌<◌, ◌^◌, ◌∙◌, ◌≡◌, ◌≤◌}
 use Rattle.bucket_table.specs.Resize.Renewing.{Awaits, Pours, Renews, arrays_by_age}
@@ -9,7 +9,9 @@ use Rattle.bucket_slots.specs.Sizing.{IsPowerIn}
 use Rattle.bucket_slots.proofs.Doublings.{double_fits}
 use Rattle.bucket_slots.proofs.PowersOfTwo.{exponent_le, power_parts}
 use Rattle.bucket_table.specs.Resize.Resizing.{MakesArray}
-use Rattle.bucket_table.proofs.Map.MapKept.{keeps_pairs, nothing_kept, one_map_kept}
+use Rattle.bucket_table.specs.Map.Counting.{IsCountedMap}
+use Rattle.bucket_table.proofs.Map.Counted.{map_kept, nothing_counted}
+use Rattle.bucket_table.proofs.Map.MapKept.{keeps_pairs}
 use Rattle.bucket_table.proofs.Resize.ByAge.{each_by_age}
 use Rattle.bucket_table.proofs.Resize.Growing.{kept_made, placed_made}
 
@@ -38,10 +40,10 @@ module _ {K V : Type 0} (capacity : ℕ) (fresh : ArraysView K V) (is : IsFresh 
   made : MakesArray nothing fresh
   made = (λ stands. absurd (omega arith), λ none. record { none = refl; fresh = fresh.current; fresh_is = is.array; new_is = is.others })
 
-  pub fresh_one_map : (eq : K → K → Bool) → IsEquivalence eq → (hash : K → ℕ) → IsOneMap eq hash fresh
-  fresh_one_map eq laws hash =
-      let none = nothing_kept eq hash capacity capacity in
-      one_map_kept eq laws hash nothing fresh none (kept_made nothing fresh made) (placed_made hash nothing fresh made none.placed)
+  pub fresh_counted : (eq : K → K → Bool) → IsEquivalence eq → (hash : K → ℕ) → IsCountedMap eq hash fresh 0
+  fresh_counted eq laws hash =
+      let none = nothing_counted eq hash capacity capacity in
+      map_kept eq laws hash nothing fresh none (kept_made nothing fresh made) (placed_made hash nothing fresh made none.one_map.placed)
 
   pub fresh_empty : pairs_of fresh ≡ []
   fresh_empty =

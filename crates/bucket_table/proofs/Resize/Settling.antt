@@ -1,10 +1,12 @@
 -- A resize after the minimum was set, and what it keeps of the map.
-use Rattle.bucket_table.proofs.Words.{ArePlaced, ArraysView, Bool, Err, IsEquivalence, IsOneMap, Keeps, MapState, Ok, ResizesIf, Result, ℕ}
+use Rattle.bucket_table.proofs.Words.{ArePlaced, ArraysView, Bool, Err, IsEquivalence, Keeps, MapState, Ok, ResizesIf, Result, ℕ}
 use Rattle.bucket_table.proofs.Words.{arith, cases_lt, false_from_ne_true, if◌then◌else◌, inl, inr, le-leb, leb-true, nat_le, pairs_of}
 use Rattle.bucket_table.proofs.Words.{refl, ◌+◌, ◌-◌, ◌<◌, ◌≡◌, ◌≤◌}
 use Rattle.bucket_table.specs.Resize.Resizing.{Releases, Reserves, Resizes, TriesResize, with_minimum}
 use Rattle.bucket_table.specs.Map.MapState.{LowersMinimum, RaisesMinimum, state_of}
-use Rattle.bucket_table.proofs.Map.MapKept.{keeps_pairs, one_map_kept}
+use Rattle.bucket_table.specs.Map.Counting.{IsCountedMap}
+use Rattle.bucket_table.proofs.Map.Counted.{map_kept}
+use Rattle.bucket_table.proofs.Map.MapKept.{keeps_pairs}
 
 module _ {K V : Type 0} where
   pub resizes : {E : Type 0} (old new : ArraysView K V) (answer : Result Bool E) → TriesResize old answer new → Resizes old new
@@ -28,11 +30,17 @@ module _ {K V : Type 0} where
       → ArePlaced hash (with_minimum arrays least)
   placed_with hash arrays least law = record { homes = law.homes; rehashed = law.rehashed }
 
-  pub one_map_raised : (eq : K → K → Bool) → IsEquivalence eq → (hash : K → ℕ) (old new : ArraysView K V) (least : ℕ) → IsOneMap eq hash old
-      → Keeps (with_minimum old least) new → ArePlaced hash new → IsOneMap eq hash new
-  one_map_raised eq laws hash old new least one kept placed =
-      one_map_kept eq laws hash (with_minimum old least) new
-      (record { distinct = one.distinct; placed = placed_with hash old least one.placed }) kept placed
+  pub map_with : (eq : K → K → Bool) (hash : K → ℕ) (arrays : ArraysView K V) (least : ℕ) {count : ℕ} → IsCountedMap eq hash arrays count
+      → IsCountedMap eq hash (with_minimum arrays least) count
+  map_with eq hash arrays least was = record {
+    one_map = record { distinct = was.one_map.distinct; placed = placed_with hash arrays least was.one_map.placed };
+    counted = was.counted;
+  }
+
+  pub map_raised : (eq : K → K → Bool) → IsEquivalence eq → (hash : K → ℕ) (old new : ArraysView K V) (least : ℕ) {count : ℕ}
+      → IsCountedMap eq hash old count → Keeps (with_minimum old least) new → ArePlaced hash new → IsCountedMap eq hash new count
+  map_raised eq laws hash old new least was kept placed =
+      map_kept eq laws hash (with_minimum old least) new (map_with eq hash old least was) kept placed
 
 -- what is asked for is granted where there is room for it
 granted : (room wanted answer : ℕ) → (room < wanted → answer ≡ 0) → (wanted ≤ room → answer ≡ wanted)

@@ -99,7 +99,7 @@ module _ {S K V : Type 0} (step : S → BucketView K V → Bool → Bool → Buc
       let done : ArraysView K V = arrays_with ready Current index left in
       let before = killed_wait stands.killed kept unit in
       let after : WalkStands first next old from (index + 1) last more done = record {
-        walks = goes_on step hash left stands.walks kept unit waits call visit;
+        walks = goes_on step hash left stands.walks kept unit waits (locked.killed refl) call visit;
         killed = λ home low high. elim (cases_lt home index) [
           | inl less ↦ subst (λ (len : ℕ). (i : ℕ) → i < length ready.linked → Meets (length ready.linked) i len home
               → (bucket_at ready.linked i).killed ≡ true) (sym visit.len) (before home low less)

@@ -1,5 +1,5 @@
 -- A walk goes on by one bucket.
-use Rattle.bucket_table.proofs.Words.{AllByRecursion, ArraysView, Bool, BucketView, Current, IsInRange, IsPermutation}
+use Rattle.bucket_table.proofs.Words.{AllByRecursion, AreSourcesKilled, ArraysView, Bool, BucketView, Current, IsInRange, IsPermutation}
 use Rattle.bucket_table.proofs.Words.{IsPermutation-append_right, IsPermutation-refl, IsPermutation-trans, KeepsArrays, List, WorksUnits}
 use Rattle.bucket_table.proofs.Words.{[], and_from, ap, append-nil, append_assoc, arith, arrays_with, bucket_on, cases_Bool, cases_lt}
 use Rattle.bucket_table.proofs.Words.{false, false_from_ne_true, filter, filter-append, filter_agree, has_home_in, inl, inr, interval_width}
@@ -231,27 +231,30 @@ module _ {K V : Type 0} where
   pub each_waits : (old now ready : ArraysView K V) (start : ℕ) (visits : List (Visited (BucketView K V)))
       → VisitsEach old start visits now → MovesOn now ready → VisitsEach old start visits ready
   each_waits old now ready start [] so_far moves = moves_both so_far moves
-  each_waits old now ready start (one ∷ visits) (first, moved, lent, rest) moves =
-      (first, moved, lent, each_waits (arrays_with first Current start one.left) now ready (start + 1) visits rest moves)
+  each_waits old now ready start (one ∷ visits) (first, moved, killed, lent, rest) moves =
+      (first, moved, killed, lent, each_waits (arrays_with first Current start one.left) now ready (start + 1) visits rest moves)
 
   -- one visit more
   each_more : (old now ready : ArraysView K V) (start index : ℕ) (visits : List (Visited (BucketView K V)))
       (visit : Visited (BucketView K V)) → index ≡ start + length visits → VisitsEach old start visits now → MovesOn now ready
-      → visit.lent ≡ bucket_on ready Current index
+      → AreSourcesKilled ready index → visit.lent ≡ bucket_on ready Current index
       → VisitsEach old start (visits ++ visit ∷ []) (arrays_with ready Current index visit.left)
-  each_more old now ready start index [] visit at so_far moves lent =
+  each_more old now ready start index [] visit at so_far moves killed lent =
       let here : index ≡ start = omega (arith, at) in
       rw here (
         ready,
         moves_both so_far moves,
+        subst (λ (index : ℕ). AreSourcesKilled ready index) here killed,
         subst (λ (index : ℕ). visit.lent ≡ bucket_on ready Current index) here lent,
         moves_none (arrays_with ready Current start visit.left),
       )
-  each_more old now ready start index (one ∷ visits) visit at (first, moved, lent_first, rest) moves lent = (
+  each_more old now ready start index (one ∷ visits) visit at (first, moved, killed_first, lent_first, rest) moves killed lent = (
     first,
     moved,
+    killed_first,
     lent_first,
-    each_more (arrays_with first Current start one.left) now ready (start + 1) index visits visit (omega (arith, at)) rest moves lent,
+    each_more (arrays_with first Current start one.left) now ready (start + 1) index visits visit (omega (arith, at)) rest moves
+        killed lent,
   )
 
 module _ {S K V : Type 0} (step : S → BucketView K V → Bool → Bool → BucketView K V → Bool → S → Type 0) (hash : K → ℕ) where
@@ -291,17 +294,17 @@ module _ {S K V : Type 0} (step : S → BucketView K V → Bool → Bool → Buc
   pub goes_on : {first now next : S} {old table ready : ArraysView K V} {start index : ℕ} {flag last more : Bool} (left : BucketView K V)
       → WalksOn first now old start index flag true table → KeepsArrays table ready → WorksUnits 1 (λ home. home ≡ index) table ready
       → (length table.linked ≡ 0 → ready ≡ table)
-      → step now (bucket_on ready Current index) flag more left last next
+      → AreSourcesKilled ready index → step now (bucket_on ready Current index) flag more left last next
       → IsVisitOf hash ready index (bucket_on ready Current index) left (arrays_with ready Current index left)
       → WalksOn first next old start (index + 1) last more (arrays_with ready Current index left)
-  goes_on {first} {now} {next} {old} {table} {ready} {start} {index} {flag} {last} {more} left walk kept unit waits call is =
+  goes_on {first} {now} {next} {old} {table} {ready} {start} {index} {flag} {last} {more} left walk kept unit waits killed call is =
       let visit : Visited (BucketView K V) = record { lent = bucket_on ready Current index; left = left; more = more } in
       record {
         visits = walk.visits ++ visit ∷ [];
         calls = calls_more step first now next false flag last walk.visits visit walk.calls (walk.going refl) call;
         part = walk_more hash visit walk.reached (walk_waits hash walk.part kept) is;
         units = rw (length_push walk.visits visit) (units_as (length walk.visits + 1) old ready _ (walk_units walk unit) refl refl);
-        visited = each_more old table ready start index walk.visits visit walk.reached walk.visited (kept, waits) refl;
+        visited = each_more old table ready start index walk.visits visit walk.reached walk.visited (kept, waits) killed refl;
         reached = omega (arith, walk.reached, length_push walk.visits visit);
         going = going_more walk.visits visit (walk.going refl);
         stopped = stopped_more walk.visits visit;

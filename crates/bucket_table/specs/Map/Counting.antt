@@ -1,14 +1,30 @@
 -- A count of pairs, and what counting does to a table's arrays.
-use Rattle.std.specs.Prelude.{ℕ, ◌+◌, ◌-◌, ◌*◌, ◌^◌, ◌≡◌, ◌≤◌, List, [], flat_map, length, min}
+use Rattle.std.specs.Prelude.{ℕ, ◌+◌, ◌-◌, ◌*◌, ◌^◌, ◌≡◌, ◌≤◌, Bool, List, [], Option, Some, None, Result, Ok, Err, flat_map, length, min}
 use Rattle.bucket_slots.specs.BucketView.{BucketView, flattened}
 use Rattle.bucket_slots.specs.Slots.{live_pairs}
-use Rattle.bucket_table.specs.Views.ArraysView.{ArraysView, entries_of}
+use Rattle.bucket_table.specs.Views.ArraysView.{ArraysView, IsOneMap, entries_of, pairs_of}
 use Rattle.bucket_table.specs.Resize.Asking.{ResizesIf}
 use Rattle.bucket_table.specs.Views.Keeping.{KeepsArrays}
 
 -- how many there are, cut to what a number of 64 bits holds
 abbrev pub counted_to : {A : Type 0} → List A → ℕ
 counted_to xs = min (length xs) (2 ^ 64 - 1)
+
+-- the arrays are one map, and the number is that of its pairs
+pub record IsCountedMap {K V : Type 0} (eq : K → K → Bool) (hash : K → ℕ) (arrays : ArraysView K V) (count : ℕ) : Type 0 where
+  pub one_map : IsOneMap eq hash arrays
+  pub counted : count ≡ counted_to (pairs_of arrays)
+
+-- a number is the count of a list, if another one was before so many went and so many came
+abbrev pub CountsAfter : {A : Type 0} → ℕ → ℕ → ℕ → List A → ℕ → Type 0
+CountsAfter count gone added now result =
+    (before : ℕ) → count ≡ min before (2 ^ 64 - 1) → before + added ≡ length now + gone → result ≡ counted_to now
+
+-- how many pairs more there are where one was put, none if another was there in its place
+abbrev pub put_count : {A E : Type 0} → Result (Option A) E → ℕ
+put_count (Ok None) = 1
+put_count (Ok (Some earlier)) = 0
+put_count (Err refused) = 0
 
 -- the live pairs that stand in the chains of some buckets, bucket after bucket
 abbrev pub chained_among : {K V : Type 0} → List (BucketView K V) → List (K × V)

@@ -5,7 +5,7 @@ use Rattle.std.specs.List.{flat_map}
 use Rattle.std.specs.List.Sorted.{IsPermutation}
 use Rattle.bucket_slots.specs.BucketView.{BucketView, entries_in, pairs_in}
 use Rattle.bucket_slots.specs.Homes.{IsInRange}
-use Rattle.bucket_table.specs.Views.ArraysView.{ArraysView, IsSource, pairs_of}
+use Rattle.bucket_table.specs.Views.ArraysView.{AreSourcesKilled, ArraysView, IsSource, pairs_of}
 use Rattle.bucket_table.specs.Resize.Asking.{AsksShrinking, ResizesIf}
 use Rattle.bucket_table.specs.Walking.Cursors.{AreKilledFor, bound_of}
 use Rattle.bucket_table.specs.Views.Keeping.{Keeps, KeepsArrays}
@@ -68,10 +68,11 @@ EndsWalk false ended new = new ≡ ended
 abbrev pub MovesOn : {K V : Type 0} → ArraysView K V → ArraysView K V → Type 0
 MovesOn old new = KeepsArrays old new × (length old.linked ≡ 0 → new ≡ old)
 
--- each bucket is lent as it stands once old buckets have moved on, and nothing else changes but what the visits left
+-- each bucket is lent as it is once old buckets have moved on and its sources are all killed, and nothing else changes but what the
+-- visits left
 abbrev pub VisitsEach : {K V : Type 0} → ArraysView K V → ℕ → List (Visited (BucketView K V)) → ArraysView K V → Type 0
 VisitsEach old index [] new = MovesOn old new
-VisitsEach {K} {V} old index (visit ∷ visits) new = (ready : ArraysView K V) × MovesOn old ready
+VisitsEach {K} {V} old index (visit ∷ visits) new = (ready : ArraysView K V) × MovesOn old ready × AreSourcesKilled ready index
     × (visit.lent ≡ bucket_on ready Current index)
     × VisitsEach (arrays_with ready Current index visit.left) (index + 1) visits new
 

@@ -1,35 +1,35 @@
 //! How many pairs the arrays have.
-ghost use Rattle.std.specs.Prelude.{◌≡◌, ◌-◌, ◌++◌, ℕ, [], length};
-ghost use Rattle.bucket_table.specs.Views.ArraysView.{ArePlaced, entries_of};
+ghost use Rattle.std.specs.Prelude.{◌≡◌, ◌*◌, ◌++◌, ℕ, [], length};
+ghost use Rattle.std.specs.Prelude.{if◌then◌else◌, is_ok, is_some};
+ghost use Rattle.bucket_table.specs.Views.ArraysView.{ArePlaced, entries_of, pairs_of};
 ghost use Rattle.bucket_table.specs.Resize.Asking.{ResizesIf};
-ghost use Rattle.bucket_table.specs.Map.Counting.{CountsAndResizes, IsHeldBy, counted_to};
+ghost use Rattle.bucket_table.specs.Map.Counting.{CountsAfter, CountsAndResizes, IsHeldBy};
+ghost use Rattle.bucket_table.specs.Map.Counting.{counted_to, put_count};
 ghost use Rattle.bucket_table.specs.Views.Keeping.{Keeps};
 ghost use Rattle.bucket_table.specs.Rehash.Units.{WorksUnits};
 
 use super::Arrays;
 use crate::key_hash::KeyHash;
+use bucket_slots::bucket::BUCKET_LEN;
 use bucket_slots::lru::LruList;
 
 impl<K: Eq + Drop, V: Drop, L: LruList + Drop, const TYPE: u8> Arrays<K, V, L, TYPE> {
-    /// Works a unit, and returns how many pairs there are, saturating. Where there is none and the
-    /// minimum is 0, resizes.
-    pub(crate) fn num_entries<H: KeyHash<K>>(&mut self, hasher: &H) -> usize
+    /// Works a unit. Where there is no pair, of `count`, and the minimum is 0, resizes.
+    pub(crate) fn count_on<H: KeyHash<K>>(&mut self, hasher: &H, count: usize)
+        requires count { count ≡ counted_to (pairs_of self.old) }
         requires placed { ArePlaced (H.hash_of hasher.now) self.old }
         ensures placed { ArePlaced (H.hash_of hasher.now) self.new }
         ensures kept { Keeps self.old self.new }
-        ensures count { result ≡ counted_to (entries_of self.old) }
         ensures units { WorksUnits 1 (λ index. ⊥) self.old self.new }
         ensures arrays { CountsAndResizes self.old self.new }
         ensures alone { length self.old.linked ≡ 0 → (entries_of self.old ≡ [] → ⊥)
             → self.new ≡ self.old }
     {
         let _ = self.work_unit(hasher);
-        let count = self.count();
         if count != 0 {
-            return count;
+            return;
         }
         self.drop_if_empty();
-        count
     }
 
     /// Resizes arrays without pairs where the minimum is 0.
@@ -67,5 +67,62 @@ impl<K, V, L: LruList, const TYPE: u8> Arrays<K, V, L, TYPE> {
             index += 1;
         }
         live
+    }
+
+    /// Returns the number of own slots of both arrays.
+    #[inline(always)]
+    pub(crate) fn own_slots(&self) -> usize
+        ensures { result ≡ 32 * length (self.now.current ++ self.now.linked) }
+    {
+        (self.len() + self.old_len()) * BUCKET_LEN
+    }
+
+    /// Returns how many pairs there are, saturating, where `count` was that number before `gone`
+    /// pairs went and `added` ones came.
+    #[inline(always)]
+    pub(crate) fn count_after(&self, count: usize, gone: usize, added: usize) -> usize
+        ensures { CountsAfter count gone added (pairs_of self.now) result }
+    {
+        if gone <= added {
+            return count.saturating_add(added - gone);
+        }
+        if count == usize::MAX || count < gone - added {
+            return self.count();
+        }
+        count - (gone - added)
+    }
+}
+
+/// Returns 1 for `Ok`, and 0 for `Err`.
+#[inline(always)]
+pub(crate) fn ok_len<T, E>(done: &Result<T, E>) -> usize
+    ensures { result ≡ (if is_ok done.now then 1 else 0) }
+{
+    match done {
+        Ok(_) => 1,
+        Err(_) => 0,
+    }
+}
+
+/// Returns 1 for `Some`, and 0 for `None`.
+#[inline(always)]
+pub(crate) fn some_len<T>(held: &Option<T>) -> usize
+    ensures { result ≡ (if is_some held.now then 1 else 0) }
+{
+    match held {
+        Some(_) => 1,
+        None => 0,
+    }
+}
+
+/// Returns 1 for a pair that was put in place of none, and else 0.
+#[inline(always)]
+pub(crate) fn put_len<T, E>(done: &Result<Option<T>, E>) -> usize
+    ensures { result ≡ put_count done.now }
+{
+    match done {
+        Ok(None) => 1,
+        Ok(Some(_)) => 0,
+        Err(_) => 0,
     }
 }

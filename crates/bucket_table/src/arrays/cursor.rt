@@ -1,6 +1,6 @@
 //! Cursors over the arrays.
 ghost use Rattle.std.specs.Prelude.{◌≡◌, ◌≢◌, ℕ, ◌<◌, ◌≤◌, ◌+◌, [], Ok, length, IfOk};
-ghost use Rattle.bucket_slots.specs.BucketView.{BucketView};
+ghost use Rattle.bucket_slots.specs.BucketView.{BucketView, pairs_in};
 ghost use Rattle.bucket_slots.specs.Homes.{IsInInterval, interval_width};
 ghost use Rattle.bucket_slots.specs.Sizing.{IsLength};
 ghost use Rattle.bucket_slots.specs.Walking.{MovesToNext, pairs_ahead};
@@ -178,6 +178,15 @@ impl<K: Eq + Drop, V: Drop, L: LruList + Drop, const TYPE: u8> Arrays<K, V, L, T
         let stops = visitor.visit(self.bucket_of_mut(Side::Current, index), flag);
         self.settle_on(Side::Current, index);
         stops
+    }
+
+    /// Returns how many pairs a current bucket has.
+    pub(crate) fn len_at(&self, index: usize) -> usize
+        requires within { index < length self.now.current }
+        ensures { result ≡ length (pairs_in (bucket_on self.now Current index)) }
+    {
+        self.room_of(Side::Current);
+        self.bucket_of(Side::Current, index).len()
     }
 
     /// Removes each pair of a current bucket for which `keep` returns false; in an index it becomes

@@ -94,7 +94,9 @@ fn ask_at<K: Drop, V: Drop, L: LruList, F: FnMut(&K, &mut V) -> bool, const TYPE
         TYPE pick.old pair arrays.old index at.old result arrays.new at.new pick.new }
 {
     arrays.row_room();
-    ask_slot(arrays.nth_mut(index), at, pick, false, &())
+    let taken = ask_slot(arrays.nth_mut(index), at, pick, false, &());
+    arrays.settle_nth(index);
+    taken
 }
 
 impl<K, V, L: LruList, const TYPE: u8> Arrays<K, V, L, TYPE> {

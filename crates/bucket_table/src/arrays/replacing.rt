@@ -26,6 +26,8 @@ impl<K: Drop, V: Drop, L: LruList, const TYPE: u8> Arrays<K, V, L, TYPE> {
             (slots_replaced (bucket_on self.old side index) at.now pair (hash % 256)) }
     {
         self.room_of(side);
-        self.bucket_of_mut(side, index).replace(at, hash, pair)
+        let earlier = self.bucket_of_mut(side, index).replace(at, hash, pair);
+        self.settle_on(side, index);
+        earlier
     }
 }

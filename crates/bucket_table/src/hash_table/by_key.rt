@@ -24,12 +24,13 @@ ghost use Rattle.bucket_table.specs.Views.Locking.{IsLocked};
 
 mod by_probe;
 mod evicting;
+mod growing;
 mod lending;
 mod replacing;
 mod touching;
 mod updating;
 
-use crate::arrays::{Side, Spot};
+use crate::arrays::{Side, Spot, ok_len};
 use crate::hash_table::{HashTable, NotInserted};
 use crate::key_hash::KeyHash;
 use bucket_slots::bucket::{CACHE, EqProbe, Generation, INDEX};
@@ -207,8 +208,11 @@ impl<K: Eq + Drop, V: Drop, H: KeyHash<K>, L: LruList + Drop, const TYPE: u8> Ha
         ensures answer { AnswersInsertion K.eq key value (hash % 256) TYPE (G.keeps generation.now)
             (bucket_on self.old.arrays side index) result }
     {
-        self.arrays
-            .insert_home(side, index, hash, key, value, generation)
+        let done = self
+            .arrays
+            .insert_home(side, index, hash, key, value, generation);
+        self.count = self.arrays.count_after(self.count, 0, ok_len(&done));
+        done
     }
 
     /// Writes a value into a live slot, and returns the earlier one.

@@ -1,7 +1,7 @@
 //! How many pairs a table has.
 //!
 //! Model: `TableView`; the count is the length of the map that it is.
-//! Invariant: the table's, `IsOneMap`; a count keeps the pairs and the open tickets.
+//! Invariant: the table's, `IsCountedMap`: it stores the count, so that no bucket is asked.
 //!
 //! Ports `num_entries` and `has_entry` of scc's `src/hash_table.rs`.
 ghost use Rattle.std.specs.Prelude.{◌*◌, ◌≤◌, ◌≡◌, ◌↔◌, ◌<◌, ◌++◌, [], IsTrue, length};
@@ -26,7 +26,7 @@ impl<K: Eq + Drop, V: Drop, H: KeyHash<K>, L: LruList + Drop, const TYPE: u8> Ha
     /// Works a unit. If no pair is found and the minimum is 0, it resizes as `try_resize` does, so
     /// that a count may drop the array. May take memory, and never fails.
     ///
-    /// O(unit; buckets). scc: `HashTable::num_entries`.
+    /// O(unit); O(buckets) if it drops the array. scc: `HashTable::num_entries`.
     pub fn num_entries(&mut self) -> usize
         ensures count { result ≡ counted_to (pairs_of self.new.arrays) }
         ensures map { KeepsPairs (state_of TYPE self.old) (state_of TYPE self.new) }
@@ -35,14 +35,15 @@ impl<K: Eq + Drop, V: Drop, H: KeyHash<K>, L: LruList + Drop, const TYPE: u8> Ha
         ensures alone { length self.old.arrays.linked ≡ 0 → (pairs_of self.old.arrays ≡ [] → ⊥)
             → self.new ≡ self.old }
     {
-        self.arrays.num_entries(&self.hasher)
+        self.arrays.count_on(&self.hasher, self.count);
+        self.count
     }
 
     /// Tests whether the map has a pair.
     ///
     /// Works a unit, and resizes as `num_entries` does. May take memory, and never fails.
     ///
-    /// O(unit; buckets). scc: `HashTable::has_entry`.
+    /// O(unit); O(buckets) if it drops the array. scc: `HashTable::has_entry`.
     pub fn has_entry(&mut self) -> bool
         ensures has { IsTrue result ↔ (0 < length (pairs_of self.new.arrays)) }
         ensures map { KeepsPairs (state_of TYPE self.old) (state_of TYPE self.new) }
@@ -56,17 +57,31 @@ impl<K: Eq + Drop, V: Drop, H: KeyHash<K>, L: LruList + Drop, const TYPE: u8> Ha
 }
 
 impl<K: Eq, V, H: KeyHash<K>, L: LruList, const TYPE: u8> HashTable<K, V, H, L, TYPE> {
-    /// Returns how many pairs the map has, at most 2^64 - 1.
+    /// Returns how many pairs there are, at most 2^64 - 1.
     ///
     /// It changes nothing, works no unit, and counts the old array's pairs too.
     ///
-    /// O(buckets). scc: `HashMap::len`.
+    /// O(1). scc: `HashMap::len`.
+    #[inline(always)]
     pub fn len(&self) -> usize
+        ensures count { result ≡ counted_to (pairs_of self.now.arrays) }
+    {
+        self.count
+    }
+
+    /// Returns what `len` returns, and states that there are at most as many pairs as own slots,
+    /// and those in the chains.
+    ///
+    /// O(1); O(buckets) if there are more pairs than own slots.
+    pub fn bounded_len(&self) -> usize
         ensures count { result ≡ counted_to (pairs_of self.now.arrays) }
         ensures within { IsHeldBy (pairs_of self.now.arrays)
             (self.now.arrays.current ++ self.now.arrays.linked) }
     {
-        self.arrays.count()
+        if self.count > self.arrays.own_slots() {
+            return self.arrays.count();
+        }
+        self.count
     }
 
     /// States that the current array has no more slots than the maximum; does nothing at run time.
@@ -81,10 +96,10 @@ impl<K: Eq, V, H: KeyHash<K>, L: LruList, const TYPE: u8> HashTable<K, V, H, L, 
     ///
     /// It changes nothing and works no unit.
     ///
-    /// O(buckets). scc: `HashMap::is_empty`.
+    /// O(1). scc: `HashMap::is_empty`.
     pub fn is_empty(&self) -> bool
         ensures { IsTrue result ↔ pairs_of self.now.arrays ≡ [] }
     {
-        self.len() == 0
+        self.count == 0
     }
 }

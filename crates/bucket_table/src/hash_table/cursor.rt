@@ -124,7 +124,11 @@ impl<K: Eq + Drop, V: Drop, H: KeyHash<K>, L: LruList + Drop, const TYPE: u8> Ha
             (AnswersBy (λ key value answer. F.post keep.now key value answer)) TYPE
             (G.epoch_of generation.now) self.old.arrays index result self.new.arrays }
     {
-        self.arrays.retain_bucket(index, keep, generation)
+        let before = self.arrays.len_at(index);
+        let gone = self.arrays.retain_bucket(index, keep, generation);
+        let after = self.arrays.len_at(index);
+        self.count = self.arrays.count_after(self.count, before, after);
+        gone
     }
 
     /// Moves a pointer to the first live pair, and locks that pair's bucket.

@@ -26,6 +26,7 @@ impl<K: Eq + Drop, V: Drop, H: KeyHash<K>, L: LruList + Drop, const TYPE: u8> Ha
             ≡ record self.old.arrays { current = []; linked = []; tickets = first_tickets 0 } }
     {
         self.arrays.clear();
+        self.count = 0;
     }
 }
 
@@ -43,6 +44,7 @@ impl<K: Eq, V, H: KeyHash<K>, L: LruList, const TYPE: u8> HashTable<K, V, H, L, 
         ensures arrays { self.new.arrays
             ≡ record self.old.arrays { current = []; linked = []; tickets = first_tickets 0 } }
     {
+        self.count = 0;
         self.arrays.drain()
     }
 }

@@ -22,17 +22,19 @@ impl<K: Eq, V, H: KeyHash<K>, L: LruList, const TYPE: u8> HashTable<K, V, H, L, 
         ensures arrays { self.new.arrays
             ≡ record self.old.arrays { current = []; linked = []; tickets = first_tickets 0 } }
     {
+        self.count = 0;
         self.arrays.extract()
     }
 
     /// Puts back arrays that were taken out, with their tickets and capacities, in exchange for
     /// what the table has.
     ///
-    /// Takes no memory, and never fails. O(1). Own.
+    /// Takes no memory, and never fails. O(buckets), since it counts the pairs. Own.
     pub fn restore(&mut self, taken: &mut TableExtract<K, V, L, TYPE>)
         requires one_map { ∥ IsOneMap K.eq (H.hash_of self.old.hasher) taken.old.arrays ∥₁ }
         ensures { self.new ≡ record self.old { arrays = taken.old.arrays } }
     {
         taken.swap_arrays(&mut self.arrays);
+        self.count = self.arrays.count();
     }
 }

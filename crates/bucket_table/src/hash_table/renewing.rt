@@ -48,6 +48,7 @@ impl<K: Eq + Drop, V: Drop, H: KeyHash<K>, const TYPE: u8> HashTable<
     {
         let fresh = self.arrays.fresh(capacity)?;
         let mut source = mem::replace(&mut self.arrays, fresh);
+        self.count = 0;
         self.pour_all(&mut source);
         Ok(())
     }

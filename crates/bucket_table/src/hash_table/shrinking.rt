@@ -68,6 +68,7 @@ impl<'a, K: Eq + Drop, V: Drop, H: KeyHash<K>, L: LruList + Drop, const TYPE: u8
     {
         let LockedBucket { table, side, index } = self;
         let pair = table.arrays.take_at(side, index, at);
+        table.count = table.arrays.count_after(table.count, 1, 0);
         (pair, table)
     }
 
@@ -92,6 +93,7 @@ impl<'a, K: Eq + Drop, V: Drop, H: KeyHash<K>, L: LruList + Drop, const TYPE: u8
     {
         let LockedBucket { table, side, index } = self;
         table.arrays.mark_at(side, index, at, generation);
+        table.count = table.arrays.count_after(table.count, 1, 0);
         table
     }
 }

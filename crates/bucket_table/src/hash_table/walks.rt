@@ -170,7 +170,11 @@ impl<K: Eq + Drop, V: Drop, H: KeyHash<K>, L: LruList + Drop, const TYPE: u8> Ha
             flag.new visitor.new
             × (self.new.arrays ≡ arrays_with self.old.arrays Current index left) }
     {
-        self.arrays.visit_at(index, visitor, flag)
+        let before = self.arrays.len_at(index);
+        let more = self.arrays.visit_at(index, visitor, flag);
+        let after = self.arrays.len_at(index);
+        self.count = self.arrays.count_after(self.count, before, after);
+        more
     }
 
     /// Resizes the current array where its first buckets have few live slots.

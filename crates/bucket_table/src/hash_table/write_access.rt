@@ -2,7 +2,7 @@
 //!
 //! Model: `LockedBucket`, the table, a side and an index.
 //! Invariant (`IsLocked`): a current bucket has all its sources killed; an old one isn't killed,
-//! and is returned only after a resize in the same call.
+//! and every current bucket is vacant, as after a resize before the first pair moves.
 //!
 //! Ports `writer_sync`, `try_reserve_bucket`, `optional_writer_sync` and `try_optional_writer` of
 //! scc's `src/hash_table.rs`.
@@ -102,9 +102,13 @@ impl<K: Eq + Drop, V: Drop, H: KeyHash<K>, L: LruList + Drop, const TYPE: u8> Ha
         self.arrays.roomy_home(hash)
     }
 
-    /// Locks a bucket of one side.
+    /// Locks a bucket of one side, as `find` returns it.
     ///
-    /// O(1). Own.
+    /// A current bucket can be locked if all its sources are killed. An old one can be locked from
+    /// a resize until the first pair moves: while it isn't killed and every current bucket is
+    /// vacant.
+    ///
+    /// O(1).
     #[inline(always)]
     pub fn lock(&mut self, side: Side, index: usize) -> LockedBucket<'_, K, V, H, L, TYPE>
         requires { IsLocked self.old.arrays side index }

@@ -32,8 +32,8 @@ impl<K: Eq, V, H: KeyHash<K>> HashMap<K, V, H> {
     /// The slots stay, the old ones too. The iterator holds the map's arrays, and puts them back
     /// when it is dropped. A leaked iterator keeps them.
     ///
-    /// Never fails, and takes no memory. O(1); all steps together O(slots), and the function's
-    /// calls. std: `HashMap::extract_if`.
+    /// Never fails, and takes no memory. O(1); all steps and its drop together O(slots), and the
+    /// function's calls. std: `HashMap::extract_if`.
     pub fn extract_if<F: FnMut(&K, &mut V) -> bool>(&mut self, test: F) -> ExtractIf<'_, K, V, H, F>
         requires callable { F.IsAlwaysCallable test }
         ensures same_map { result.from.ghost_name ≡ self.entry.ghost_name }

@@ -31,8 +31,8 @@ impl<K: Eq, H: KeyHash<K>> HashSet<K, H> {
     ///
     /// The slots stay, and the iterator holds the arrays, as in `HashMap::extract_if`.
     ///
-    /// Never fails, and takes no memory. O(1); all steps together O(slots), and the function's
-    /// calls. std: `HashSet::extract_if`.
+    /// Never fails, and takes no memory. O(1); all steps and its drop together O(slots), and the
+    /// function's calls. std: `HashSet::extract_if`.
     pub fn extract_if<F: FnMut(&K) -> bool>(&mut self, test: F) -> ExtractIf<'_, K, H, F>
         requires callable { F.IsAlwaysCallable test }
         ensures same_set { result.from.ghost_name ≡ self.entry.ghost_name }

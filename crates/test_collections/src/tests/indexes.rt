@@ -83,9 +83,10 @@ const STORIES: &[Story] = steps! {
             Inserts(1, 10), Inserts(2, 20), Removes(1, true), Inserts(1, 11), Holds(1, Some(11)),
             Len(2), Returns(1, 12), Reads(1, Some((1, 11))), Holds(1, None), Inserts(1, 13),
             Holds(1, Some(13)), Len(2) } },
+    // A bucket of 48 pairs doubles the slots while there is a pair for each 8: 64 make 1,024.
     Story { name: "keys of one hash make a chain", hasher: ScriptHash::Zero, capacity: 0,
         steps: steps! {
-            Fills(0, 100), Slots(64), Len(100), Removes(50, true), Holds(50, None),
+            Fills(0, 100), Slots(1024), Len(100), Removes(50, true), Holds(50, None),
             Reads(99, Some((99, 99))), Returns(98, 1), Inserts(50, 5), Holds(50, Some(5)), Len(99),
             Drains(51, 99), Len(51), Removes(50, true), Len(50), Holds(49, Some(49)) } },
     Story { name: "pairs that aren't kept are gone, and their keys come again",

@@ -69,9 +69,10 @@ const STORIES: &[Story] = steps! {
             Writes(0), Len(0), Fills(0, 31), Fills(128, 159), Writes(62), Holds(30, Some(31)),
             Fills(31, 32), Slots(128), Writes(63), Len(63), Holds(30, Some(32)),
             Holds(31, Some(32)), Holds(158, Some(160)), Holds(32, None) } },
+    // A bucket of 48 pairs doubles the slots while there is a pair for each 8: 64 make 1,024.
     Story { name: "keys of one hash make a chain", hasher: ScriptHash::Zero, minimum: 0,
         steps: steps! {
-            Fills(0, 100), Slots(64), Len(100), Removes(50, Some((50, 50))), Returns(99, 1),
+            Fills(0, 100), Slots(1024), Len(100), Removes(50, Some((50, 50))), Returns(99, 1),
             Holds(99, Some(99)), Updates(33, Some((33, 33))), Lends(98, 98, Some(98)),
             Drains(51, 100), Len(50), Retains(2, 1, 50), Len(25), Holds(49, Some(50)) } },
     // 13 of 16 of 64 slots are 52 pairs, and of 128 slots 104.

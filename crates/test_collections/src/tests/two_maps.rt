@@ -58,17 +58,18 @@ const STORIES: &[Story] = steps! {
             One(Inserts(1, 10)), One(Reserves(MOST, MOST)), Clones, Other(Holds(1, Some(10))),
             Other(Len(1)), Other(Slots(64)), One(Clears), Clones, Other(Len(0)),
             Other(Slots(0)) } },
-    // All keys share the first of two buckets, and the other is empty, so the map doesn't grow. Its
-    // copy has room for 100 pairs from the first.
+    // All keys come to the first bucket, until it has 48 pairs and the slots are doubled, twice:
+    // then a bucket has 32 of the keys. The copy has 128 slots from the first, and grows once.
     Story { name: "numbers are copied",
         starts: ((ScriptHash::Spread, 0), (ScriptHash::Spread, 0)), turns: steps! {
-            One(Fills(0, 100)), One(Slots(64)), Copies, AreEqual(true), Other(Slots(128)),
+            One(Fills(0, 100)), One(Slots(256)), Copies, AreEqual(true), Other(Slots(256)),
             One(Removes(7, Some((7, 7)))), Other(Holds(7, Some(7))), Other(Len(100)) } },
-    // The first map grows when its last key is inserted, and the other has room from the first.
+    // The first map grows when its last key is inserted. All keys of the other share its first
+    // bucket, so its 128 slots are doubled twice.
     Story { name: "a map amid a growth is equal to its like",
         starts: ((ScriptHash::Spread, 0), (ScriptHash::Id, 128)), turns: steps! {
             One(Fills(128, 159)), Other(Fills(128, 159)), FillInTurn(0, 32), One(Slots(128)),
-            Other(Slots(128)), AreEqual(true), Other(Lends(150, 0, Some(150))), AreEqual(false),
+            Other(Slots(512)), AreEqual(true), Other(Lends(150, 0, Some(150))), AreEqual(false),
             Other(Removes(150, Some((150, 0)))), AreEqual(false), Other(Fills(150, 151)),
             AreEqual(true) } }
 };

@@ -12,7 +12,7 @@ ghost use Rattle.bucket_table.specs.Map.MapState.{state_of};
 ghost use Rattle.bucket_table.specs.Map.Preparing.{IsReady};
 ghost use Rattle.bucket_table.specs.Views.ArraysView.{marks_of, pairs_of};
 
-use crate::arrays::{Side, Spot};
+use crate::arrays::{Side, Spot, some_len};
 use crate::hash_table::HashTable;
 use crate::key_hash::KeyHash;
 use bucket_slots::bucket::{Generation, INDEX, KeyProbe};
@@ -46,9 +46,12 @@ impl<K: Eq + Drop, V: Drop, H: KeyHash<K>, L: LruList + Drop, const TYPE: u8> Ha
     {
         let _ready = self.fetch_home(hash);
         if let Some(pair) = self.arrays.search_and_take(Side::Old, hash, probe) {
+            self.count = self.arrays.count_after(self.count, 1, 0);
             return Some(pair);
         }
-        self.arrays.take_on(Side::Current, hash, probe)
+        let taken = self.arrays.take_on(Side::Current, hash, probe);
+        self.count = self.arrays.count_after(self.count, some_len(&taken), 0);
+        taken
     }
 
     /// Calls `reader` with the first pair of an index that a probe wants, makes the pair a
@@ -88,6 +91,7 @@ impl<K: Eq + Drop, V: Drop, H: KeyHash<K>, L: LruList + Drop, const TYPE: u8> Ha
                 let answer = reader(key, value);
                 self.arrays
                     .mark_at(spot.side, spot.index, &mut spot.at, generation);
+                self.count = self.arrays.count_after(self.count, 1, 0);
                 Some(answer)
             }
             None => None,

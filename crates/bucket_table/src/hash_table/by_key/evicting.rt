@@ -18,7 +18,7 @@ ghost use Rattle.bucket_table.specs.Views.Sides.{bucket_on, buckets_on, with_buc
 ghost use Rattle.bucket_table.specs.declared.hash_table.NotInserted.TheVariants.{Present};
 ghost use Rattle.bucket_table.specs.declared.hash_table.Vacancy.TheVariants.{Ready};
 
-use crate::arrays::Side;
+use crate::arrays::{Side, put_len, some_len};
 use crate::hash_table::{HashTable, Missing, NotInserted, Vacancy};
 use crate::key_hash::KeyHash;
 use bucket_slots::bucket::{Bucket, CACHE};
@@ -161,7 +161,10 @@ impl<K: Eq + Drop, V: Drop, H: KeyHash<K>, L: LruList + Drop, const TYPE: u8> Ha
     {
         self.arrays.room_of(side);
         let bucket = self.arrays.bucket_of_mut(side, index);
-        put_absent_in(bucket, hash, key, value)
+        let gone = put_absent_in(bucket, hash, key, value);
+        self.arrays.settle_on(side, index);
+        self.count = self.arrays.count_after(self.count, some_len(&gone), 1);
+        gone
     }
 
     /// Inserts a pair into a locked bucket.
@@ -187,6 +190,7 @@ impl<K: Eq + Drop, V: Drop, H: KeyHash<K>, L: LruList + Drop, const TYPE: u8> Ha
         let bucket = self.arrays.bucket_of_mut(side, index);
         let done = put_in(bucket, hash, key, value);
         self.arrays.settle_on(side, index);
+        self.count = self.arrays.count_after(self.count, 0, put_len(&done));
         done
     }
 }

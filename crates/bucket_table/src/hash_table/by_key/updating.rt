@@ -15,7 +15,7 @@ ghost use Rattle.bucket_table.specs.Views.ArraysView.{pairs_of};
 ghost use Rattle.bucket_table.specs.Views.Locking.{IsLocked};
 ghost use Rattle.bucket_table.specs.Views.Sides.{bucket_on, buckets_on, with_bucket};
 
-use crate::arrays::Side;
+use crate::arrays::{Side, put_len};
 use crate::hash_table::HashTable;
 use crate::key_hash::KeyHash;
 use bucket_slots::bucket::{EqProbe, Generation, KeyProbe};
@@ -143,7 +143,7 @@ impl<K: Eq + Drop, V: Drop, H: KeyHash<K>, L: LruList + Drop, const TYPE: u8> Ha
 
     /// Inserts a pair into a locked bucket, or writes its value there.
     #[inline(always)]
-    fn upsert_at<G: Generation>(
+    pub(super) fn upsert_at<G: Generation>(
         &mut self,
         side: Side,
         index: usize,
@@ -162,7 +162,10 @@ impl<K: Eq + Drop, V: Drop, H: KeyHash<K>, L: LruList + Drop, const TYPE: u8> Ha
             (bucket_on self.old.arrays side index) result left
             × (self.new ≡ with_bucket self.old side index left) }
     {
-        self.arrays
-            .upsert_home(side, index, hash, key, value, generation)
+        let done = self
+            .arrays
+            .upsert_home(side, index, hash, key, value, generation);
+        self.count = self.arrays.count_after(self.count, 0, put_len(&done));
+        done
     }
 }

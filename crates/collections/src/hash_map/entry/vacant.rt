@@ -2,7 +2,7 @@
 ghost use Rattle.std.specs.Prelude.{◌≡◌, None, IfErr, IfOk, OnOk};
 ghost use Rattle.std.specs.Borrow.{sem};
 ghost use Rattle.std.specs.Map.{lookup};
-ghost use Rattle.bucket_table.specs.Map.Finding.{Finds};
+ghost use Rattle.bucket_table.specs.Map.FindingGrown.{FindsOrGrows};
 ghost use Rattle.bucket_table.specs.Map.LookingUp.{IsAbsent};
 ghost use Rattle.bucket_table.specs.Views.ArraysView.{pairs_of};
 ghost use Rattle.collections.specs.Maps.{get};
@@ -110,10 +110,10 @@ fn find_absent<K: Eq + Drop, V: Drop, H: KeyHash<K>>(
     requires fits { MapFits K.row V.row H.row K.PartialEq H.KeyHash }
     requires hashed { hash ≡ H.hash_of table.old.hasher key.now }
     requires absent { lookup (K.eq key.now) (pairs_of table.old.arrays) ≡ None }
-    ensures found { Finds MAP hash table.old result table.new }
+    ensures found { FindsOrGrows MAP hash table.old result table.new }
     ensures hashed { hash ≡ H.hash_of table.new.hasher key.now }
     ensures absent { OnOk result
         (IsAbsent (λ own. K.eq own key.now) (pairs_of table.new.arrays)) }
 {
-    table.find(hash)
+    table.find_or_grow(hash)
 }

@@ -8,8 +8,11 @@ pub invariant_of-self : goal.invariant_of-self
 invariant_of-self g c =
     let e = c.end_incremental_rehash.ensures in
     record {
-      distinct = rw e.same_pairs c.self.invariant.distinct;
-      placed = placed_end _ _ _ c.args.ticket c.args.success c.end_incremental_rehash.result e.rehash c.self.invariant.placed;
+      one_map = record {
+        distinct = rw e.same_pairs c.self.invariant.one_map.distinct;
+        placed = placed_end _ _ _ c.args.ticket c.args.success c.end_incremental_rehash.result e.rehash c.self.invariant.one_map.placed;
+      };
+      counted = rw e.same_pairs c.self.invariant.counted;
     }
 
 pub returns-clause-map : goal.returns-clause-map

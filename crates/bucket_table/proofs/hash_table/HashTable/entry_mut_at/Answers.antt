@@ -1,12 +1,14 @@
 use Rattle.bucket_table.proofs.Words.{refl}
 use Rattle.bucket_table.proofs.Map.SlotSteps.{writes}
+use Rattle.bucket_table.proofs.Map.Counted.{counted_same, len_written}
 use Rattle.bucket_table.proofs.hash_table.HashTable.entry_mut_at.Goals as goal
 
 pub invariant_of-self-lent : goal.invariant_of-self-lent
 invariant_of-self-lent g c value =
     let within = rw (← c.self.view_is) at c.requires.within in
-    (writes g.met.K.Eq.laws g.H.KeyHash.hash_of g.row.TYPE c.args.side c.args.index c.self.invariant within c.args.at.now _
-    c.entry_of_mut.ensures.pair value).one_map
+    let x = writes g.met.K.Eq.laws g.H.KeyHash.hash_of g.row.TYPE c.args.side c.args.index c.self.invariant.one_map within c.args.at.now _
+    c.entry_of_mut.ensures.pair value in
+    counted_same c.self.invariant x.one_map (len_written x.map)
 
 pub returns : goal.returns
 returns g c =
@@ -17,6 +19,6 @@ returns g c =
         writes_back = tt;
         pair = rw (← c.self.view_is) here;
         map = λ value. rw (← c.self.view_is) (writes g.met.K.Eq.laws g.H.KeyHash.hash_of g.row.TYPE c.args.side c.args.index
-            c.self.invariant within c.args.at.now _ here value).map;
+            c.self.invariant.one_map within c.args.at.now _ here value).map;
       },
     )

@@ -1,12 +1,12 @@
 use Rattle.bucket_table.proofs.Scripts.CallSteps.{empty_without}
 use Rattle.bucket_table.proofs.Map.Finding.{home_answered, prepared}
-use Rattle.bucket_table.proofs.Map.MapKept.{one_map_kept}
+use Rattle.bucket_table.proofs.Map.Counted.{map_kept}
 use Rattle.bucket_table.proofs.hash_table.HashTable.fetch_home.Goals as goal
 
 pub invariant_of-self : goal.invariant_of-self
 invariant_of-self g c =
     let e = c.fetch_home-is_ready.ensures in
-    one_map_kept g.K.PartialEq.eq g.met.K.Eq.laws (g.H.KeyHash.hash_of c.self.inside.hasher) c.self.inside.arrays
+    map_kept g.K.PartialEq.eq g.met.K.Eq.laws (g.H.KeyHash.hash_of c.self.inside.hasher) c.self.inside.arrays
     c.fetch_home-is_ready.new.self c.self.invariant e.kept.keeps e.placed
 
 pub returns-clause-prepared : goal.returns-clause-prepared

@@ -1,11 +1,11 @@
 use Rattle.bucket_table.proofs.Words.{arith}
-use Rattle.bucket_table.proofs.Map.MapKept.{one_map_kept}
+use Rattle.bucket_table.proofs.Map.Counted.{map_kept}
 use Rattle.bucket_table.proofs.Walking.TableCursor.{nothing_there, sets_out}
 use Rattle.bucket_table.proofs.hash_table.HashTable.first.Goals as goal
 
 pub invariant_of-self : goal.invariant_of-self
 invariant_of-self g c =
-    one_map_kept g.K.PartialEq.eq g.met.K.Eq.laws (g.H.KeyHash.hash_of c.self.inside.hasher) c.self.inside.arrays c.first_from.new.self
+    map_kept g.K.PartialEq.eq g.met.K.Eq.laws (g.H.KeyHash.hash_of c.self.inside.hasher) c.self.inside.arrays c.first_from.new.self
     c.self.invariant c.first_from.ensures.kept.keeps c.first_from.ensures.placed
 
 pub returns-clause-sets_out : goal.returns-clause-sets_out

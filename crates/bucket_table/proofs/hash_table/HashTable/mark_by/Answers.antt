@@ -4,6 +4,7 @@ use Rattle.bucket_table.proofs.Map.KeySteps.{marks_through}
 use Rattle.bucket_table.proofs.Map.SlotSteps.{marks}
 use Rattle.bucket_table.specs.Map.MapState.{state_of}
 use Rattle.bucket_table.proofs.Map.TakeSteps.{same_taken, shown_before, then_taken}
+use Rattle.bucket_table.proofs.Map.Counted.{counted_after, len_taken}
 use Rattle.bucket_table.proofs.hash_table.HashTable.mark_by.Goals as goal
 
 pub invariant_of-self : goal.invariant_of-self
@@ -11,8 +12,9 @@ invariant_of-self g c =
     let o = c.in-Some.spot in
     let stands = rw (← c.self.view_is) at c.in-Some.ensures.found in
     let e = c.mark_at.ensures in
-    (marks g.met.K.Eq.laws g.H.KeyHash.hash_of g.row.TYPE o.side o.index c.self.invariant stands.within o.at stands.pair stands.slot _ _
-    e.kept e.placed).one_map
+    let x = marks g.met.K.Eq.laws g.H.KeyHash.hash_of g.row.TYPE o.side o.index c.self.invariant.one_map stands.within o.at stands.pair
+    stands.slot _ _ e.kept e.placed in
+    counted_after c.self.invariant x.one_map 1 0 (len_taken x.map) c.count_after-self-inside.ensures
 
 pub returns-in-Some-clause-map : goal.returns-in-Some-clause-map
 returns-in-Some-clause-map g c =
@@ -27,7 +29,8 @@ returns-in-Some-clause-map g c =
       value,
       c.reader-answer.ensures,
       same_taken (g.P.KeyProbe.wants c.args.probe.now) _ _ stands.pair (own.now, value.now) stands.slot stands.there there,
-      then_taken _ _ _ (own.now, value.now) keeps (marks g.met.K.Eq.laws g.H.KeyHash.hash_of g.row.TYPE o.side o.index c.self.invariant
+      then_taken _ _ _ (own.now, value.now) keeps (marks g.met.K.Eq.laws g.H.KeyHash.hash_of g.row.TYPE o.side o.index
+          c.self.invariant.one_map
           stands.within o.at (own.now, value.now) there _ _ e.kept e.placed).map,
     )
 

@@ -1,12 +1,12 @@
-use Rattle.bucket_table.proofs.Resize.Settling.{one_map_raised, raises}
+use Rattle.bucket_table.proofs.Resize.Settling.{map_raised, raises}
 use Rattle.bucket_table.proofs.hash_table.HashTable.reserve_capacity.Goals as goal
 
 pub invariant_of-self : goal.invariant_of-self
 invariant_of-self g c =
     let e = c.reserve_capacity.ensures in
     let hash = g.H.KeyHash.hash_of c.self.inside.hasher in
-    one_map_raised g.K.PartialEq.eq g.met.K.Eq.laws hash c.self.inside.arrays c.reserve_capacity.new.self _ c.self.invariant e.kept
-    (e.placed hash c.self.invariant.placed)
+    map_raised g.K.PartialEq.eq g.met.K.Eq.laws hash c.self.inside.arrays c.reserve_capacity.new.self _ c.self.invariant e.kept
+    (e.placed hash c.self.invariant.one_map.placed)
 
 pub returns-clause-map : goal.returns-clause-map
 returns-clause-map g c =

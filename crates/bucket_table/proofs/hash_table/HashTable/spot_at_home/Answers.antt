@@ -10,7 +10,8 @@ returns-in-None-clause-absent g c =
     let none = rw c.array_of.ensures at c.in-None.ensures.place in
     rw (← c.self.view_is) (searched_absent (g.P.KeyProbe.wants c.args.probe.now) c.args.hash (g.H.KeyHash.hash_of c.self.inside.hasher)
     (rw (← c.self.view_is) at c.requires.own_hash) c.self.inside.arrays Current _ c.home-index.result
-    c.self.invariant.placed (locked_ready c.args.hash c.home-index.result c.self.inside.arrays (rw (← c.self.view_is) at c.requires.ready)
+    c.self.invariant.one_map.placed (locked_ready c.args.hash c.home-index.result c.self.inside.arrays (rw (← c.self.view_is) at
+    c.requires.ready)
     home) home refl (sym none))
 
 pub returns-in-Some-clause-found : goal.returns-in-Some-clause-found

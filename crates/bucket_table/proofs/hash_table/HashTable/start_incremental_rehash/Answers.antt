@@ -7,9 +7,11 @@ pub invariant_of-self : goal.invariant_of-self
 invariant_of-self g c =
     let e = c.start_incremental_rehash.ensures in
     record {
-      distinct = rw e.others c.self.invariant.distinct;
-      placed = placed_start _ _ _ c.start_incremental_rehash.result e.tickets
-          e.others c.self.invariant.placed;
+      one_map = record {
+        distinct = rw e.others c.self.invariant.one_map.distinct;
+        placed = placed_start _ _ _ c.start_incremental_rehash.result e.tickets e.others c.self.invariant.one_map.placed;
+      };
+      counted = rw e.others c.self.invariant.counted;
     }
 
 pub returns-clause-map : goal.returns-clause-map

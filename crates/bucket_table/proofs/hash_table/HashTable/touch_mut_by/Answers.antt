@@ -1,14 +1,16 @@
 use Rattle.bucket_table.proofs.Words.{refl}
 use Rattle.bucket_table.proofs.Map.Lending.{lent_there, lent_writes}
 use Rattle.bucket_table.proofs.Map.SlotSteps.{writes_touching}
+use Rattle.bucket_table.proofs.Map.Counted.{counted_same, len_written}
 use Rattle.bucket_table.proofs.hash_table.HashTable.touch_mut_by.Goals as goal
 
 pub invariant_of-self-lent : goal.invariant_of-self-lent
 invariant_of-self-lent g c value =
     let o = c.in-Some.spot in
     let stands = rw (← c.self.view_is) at c.in-Some.ensures.found in
-    (writes_touching g.met.K.Eq.laws g.H.KeyHash.hash_of g.row.TYPE o.side o.index c.self.invariant stands.within o.at _
-    c.touch_entry_of.ensures.pair g.L.LruList.KEEPS value).one_map
+    let x = writes_touching g.met.K.Eq.laws g.H.KeyHash.hash_of g.row.TYPE o.side o.index c.self.invariant.one_map stands.within o.at _
+    c.touch_entry_of.ensures.pair g.L.LruList.KEEPS value in
+    counted_same c.self.invariant x.one_map (len_written x.map)
 
 pub returns-in-Some : goal.returns-in-Some
 returns-in-Some g c =
@@ -24,7 +26,7 @@ returns-in-Some g c =
         refl,
         λ value. lent_writes wants g.row.TYPE _ c.args.self.now between prepared o.side o.index o.at stands own _
             (rw (← c.self.view_is) here) g.L.LruList.KEEPS value _ (rw (← c.self.view_is) refl) (rw (← c.self.view_is)
-            (writes_touching g.met.K.Eq.laws g.H.KeyHash.hash_of g.row.TYPE o.side o.index c.self.invariant seen.within o.at _ here
+            (writes_touching g.met.K.Eq.laws g.H.KeyHash.hash_of g.row.TYPE o.side o.index c.self.invariant.one_map seen.within o.at _ here
             g.L.LruList.KEEPS value).map),
         tt,
       ),

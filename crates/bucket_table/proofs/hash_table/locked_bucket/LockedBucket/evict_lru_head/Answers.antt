@@ -3,6 +3,7 @@ use Rattle.bucket_table.proofs.Map.LockedSteps.{with_same}
 use Rattle.bucket_table.proofs.Map.MapSteps.{evicted}
 use Rattle.bucket_table.proofs.Views.SideChanges.{buckets_on-arrays_with, changeable_locked}
 use Rattle.bucket_table.proofs.Map.PutSlots.{goes}
+use Rattle.bucket_table.proofs.Map.Counted.{counted_after, len_evicted, len_unevicted}
 use Rattle.bucket_table.proofs.hash_table.locked_bucket.LockedBucket.evict_lru_head.Goals as goal
 
 pub invariant_of-table : goal.invariant_of-table
@@ -10,9 +11,11 @@ invariant_of-table g c =
     let o = c.args.self.now in
     let locked = rw (← c.table.view_is) at o.locked in
     let e = rw c.bucket_of_mut.ensures.bucket at c.evict_lru_head-gone.ensures in
-    rw c.settle_on.ensures (evicted g.met.K.Eq.laws g.H.KeyHash.hash_of g.row.TYPE o.side o.index c.table.invariant
-    (changeable_locked _ _ _ locked)
-    c.evict_lru_head-gone.result c.evict_lru_head-gone.new.self e.pair e.slots e.unchanged).one_map
+    let x = evicted g.met.K.Eq.laws g.H.KeyHash.hash_of g.row.TYPE o.side o.index c.table.invariant.one_map (changeable_locked _ _ _ locked)
+    c.evict_lru_head-gone.result c.evict_lru_head-gone.new.self e.pair e.slots e.unchanged in
+    counted_after c.table.invariant (rw c.settle_on.ensures x.one_map) c.some_len.result 0
+    (rw c.settle_on.ensures (len_evicted _ _ c.evict_lru_head-gone.result _ c.some_len.ensures x.map
+    (len_unevicted c.table.inside.arrays o.side o.index _ c.evict_lru_head-gone.result e.unchanged))) c.count_after-table-inside.ensures
 
 pub invariant_of-self : goal.invariant_of-self
 invariant_of-self g c =
@@ -20,7 +23,7 @@ invariant_of-self g c =
     let locked = rw (← c.table.view_is) at o.locked in
     let e = rw c.bucket_of_mut.ensures.bucket at c.evict_lru_head-gone.ensures in
     record {
-      locked = rw c.settle_on.ensures ((evicted g.met.K.Eq.laws g.H.KeyHash.hash_of g.row.TYPE o.side o.index c.table.invariant
+      locked = rw c.settle_on.ensures ((evicted g.met.K.Eq.laws g.H.KeyHash.hash_of g.row.TYPE o.side o.index c.table.invariant.one_map
           (changeable_locked _ _ _ locked) c.evict_lru_head-gone.result c.evict_lru_head-gone.new.self e.pair e.slots
           e.unchanged).locked locked);
     }
@@ -30,7 +33,8 @@ returns-clause-map g c =
     let o = c.args.self.now in
     let locked = rw (← c.table.view_is) at o.locked in
     let e = rw c.bucket_of_mut.ensures.bucket at c.evict_lru_head-gone.ensures in
-    rw (c.settle_on.ensures, ← c.table.view_is) (evicted g.met.K.Eq.laws g.H.KeyHash.hash_of g.row.TYPE o.side o.index c.table.invariant
+    rw (c.settle_on.ensures, ← c.table.view_is) (evicted g.met.K.Eq.laws g.H.KeyHash.hash_of g.row.TYPE o.side o.index
+    c.table.invariant.one_map
     (changeable_locked _ _ _ locked) c.evict_lru_head-gone.result c.evict_lru_head-gone.new.self e.pair e.slots e.unchanged).map
 
 pub returns-clause-changed : goal.returns-clause-changed

@@ -4,6 +4,7 @@ use Rattle.bucket_table.proofs.Map.LockedChanged.{answers_placing, put_or_same}
 use Rattle.bucket_table.proofs.Map.LockedSteps.{put_there}
 use Rattle.bucket_table.proofs.Map.MapSteps.{inserted_or}
 use Rattle.bucket_table.proofs.Views.SideChanges.{buckets_on-arrays_with, changeable_locked}
+use Rattle.bucket_table.proofs.Map.Counted.{counted_after, len_placed, len_unplaced}
 use Rattle.bucket_table.proofs.hash_table.locked_bucket.LockedBucket.insert.Goals as goal
 
 pub invariant_of-table : goal.invariant_of-table
@@ -13,11 +14,14 @@ invariant_of-table g c =
     let lent = c.bucket_of_mut.ensures.bucket in
     let slots = rw lent at c.insert-placed.ensures.slots in
     let same = rw lent at (refused_unchanged c.insert-placed.result _ _ _ c.insert-placed.ensures.refused) in
-    let x = inserted_or g.met.K.Eq.laws g.H.KeyHash.hash_of g.row.TYPE o.side o.index c.table.invariant (changeable_locked _ _ _ locked)
+    let x = inserted_or g.met.K.Eq.laws g.H.KeyHash.hash_of g.row.TYPE o.side o.index c.table.invariant.one_map (changeable_locked _ _ _
+    locked)
     c.insert-placed.result c.insert-placed.new.self (g.G.Generation.keeps c.args.generation.now) c.args.pair c.args.hash
     (rw (← c.table.view_is) at c.requires.own_hash) (rw (← c.table.view_is) at c.requires.home)
     (rw (← c.table.view_is) at c.requires.key_absent) slots same in
-    rw c.settle_on.ensures x.one_map
+    counted_after c.table.invariant (rw c.settle_on.ensures x.one_map) 0 c.ok_len.result
+    (rw c.settle_on.ensures (len_placed _ _ _ c.insert-placed.result _ c.ok_len.ensures x.map
+    (len_unplaced c.table.inside.arrays o.side o.index _ c.insert-placed.result same))) c.count_after-table-inside.ensures
 
 pub invariant_of-self : goal.invariant_of-self
 invariant_of-self g c =
@@ -26,7 +30,8 @@ invariant_of-self g c =
     let lent = c.bucket_of_mut.ensures.bucket in
     let slots = rw lent at c.insert-placed.ensures.slots in
     let same = rw lent at (refused_unchanged c.insert-placed.result _ _ _ c.insert-placed.ensures.refused) in
-    let x = inserted_or g.met.K.Eq.laws g.H.KeyHash.hash_of g.row.TYPE o.side o.index c.table.invariant (changeable_locked _ _ _ locked)
+    let x = inserted_or g.met.K.Eq.laws g.H.KeyHash.hash_of g.row.TYPE o.side o.index c.table.invariant.one_map (changeable_locked _ _ _
+    locked)
     c.insert-placed.result c.insert-placed.new.self (g.G.Generation.keeps c.args.generation.now) c.args.pair c.args.hash
     (rw (← c.table.view_is) at c.requires.own_hash) (rw (← c.table.view_is) at c.requires.home)
     (rw (← c.table.view_is) at c.requires.key_absent) slots same in
@@ -39,7 +44,8 @@ returns-clause-map g c =
     let lent = c.bucket_of_mut.ensures.bucket in
     let slots = rw lent at c.insert-placed.ensures.slots in
     let same = rw lent at (refused_unchanged c.insert-placed.result _ _ _ c.insert-placed.ensures.refused) in
-    let x = inserted_or g.met.K.Eq.laws g.H.KeyHash.hash_of g.row.TYPE o.side o.index c.table.invariant (changeable_locked _ _ _ locked)
+    let x = inserted_or g.met.K.Eq.laws g.H.KeyHash.hash_of g.row.TYPE o.side o.index c.table.invariant.one_map (changeable_locked _ _ _
+    locked)
     c.insert-placed.result c.insert-placed.new.self (g.G.Generation.keeps c.args.generation.now) c.args.pair c.args.hash
     (rw (← c.table.view_is) at c.requires.own_hash) (rw (← c.table.view_is) at c.requires.home)
     (rw (← c.table.view_is) at c.requires.key_absent) slots same in

@@ -1,17 +1,17 @@
 use Rattle.bucket_table.proofs.Words.{Err, Ok, refl}
 use Rattle.bucket_table.proofs.Map.LockedSteps.{ok_not_err}
-use Rattle.bucket_table.proofs.Map.MapKept.{one_map_kept}
+use Rattle.bucket_table.proofs.Map.Counted.{map_kept}
 use Rattle.bucket_table.proofs.Walking.SyncSteps.{advances, next_locked, none_before, none_null, not_held, refused_beside}
 use Rattle.bucket_table.proofs.hash_table.locked_bucket.LockedBucket.next_sync.Goals as goal
 
 pub invariant_of-table : goal.invariant_of-table
 invariant_of-table g c =
-    one_map_kept g.K.PartialEq.eq g.met.K.Eq.laws (g.H.KeyHash.hash_of c.table.inside.hasher) c.table.inside.arrays c.advance.new.self
+    map_kept g.K.PartialEq.eq g.met.K.Eq.laws (g.H.KeyHash.hash_of c.table.inside.hasher) c.table.inside.arrays c.advance.new.self
     c.table.invariant c.advance.ensures.kept c.advance.ensures.placed
 
 pub invariant_of-table-in-Err-1 : goal.invariant_of-table-in-Err-1
 invariant_of-table-in-Err-1 g c =
-    one_map_kept g.K.PartialEq.eq g.met.K.Eq.laws (g.H.KeyHash.hash_of c.table.inside.hasher) c.table.inside.arrays c.advance.new.self
+    map_kept g.K.PartialEq.eq g.met.K.Eq.laws (g.H.KeyHash.hash_of c.table.inside.hasher) c.table.inside.arrays c.advance.new.self
     c.table.invariant c.advance.ensures.kept c.advance.ensures.placed
 
 pub invariant_of-self-in-Ok : goal.invariant_of-self-in-Ok

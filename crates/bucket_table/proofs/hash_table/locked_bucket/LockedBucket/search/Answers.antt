@@ -18,7 +18,7 @@ returns-clause-absent g c =
     (g.H.KeyHash.hash_of c.table.inside.hasher)
     (λ key equal. g.met.H.KeyHash.alike c.table.inside.hasher key c.args.key.now equal ∙ sym own_hash) c.table.inside.arrays o.side
     c.bucket_of.result.now o.index
-    c.table.invariant.placed (rw (← c.table.view_is) at o.locked) (rw (← c.table.view_is) at c.requires.home) c.bucket_of.ensures
+    c.table.invariant.one_map.placed (rw (← c.table.view_is) at o.locked) (rw (← c.table.view_is) at c.requires.home) c.bucket_of.ensures
     (c.get_entry_ptr.ensures.absent null))
 
 pub returns-clause-null : goal.returns-clause-null

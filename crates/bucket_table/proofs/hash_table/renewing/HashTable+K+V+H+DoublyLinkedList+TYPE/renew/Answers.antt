@@ -1,6 +1,6 @@
 use Rattle.bucket_table.proofs.Words.{ArraysView, arith, rules, subst}
 use Rattle.bucket_table.specs.Resize.Renewing.{Renews}
-use Rattle.bucket_table.proofs.Resize.Renewing.{IsFresh, awaits_all, fresh_one_map, power_in, renewed}
+use Rattle.bucket_table.proofs.Resize.Renewing.{IsFresh, awaits_all, fresh_counted, power_in, renewed}
 use Rattle.bucket_table.proofs.hash_table.renewing.HashTable+K+V+H+DoublyLinkedList+TYPE.renew.Goals as goal
 
 pub fresh-requires : goal.fresh-requires
@@ -12,14 +12,14 @@ invariant_of-self g c =
     let made = c.in_ok-fresh.ensures in
     let is : IsFresh c.args.capacity c.replace-source.new.dest =
     rw c.replace-source.ensures.after (record { array = made.array; full = made.full; others = made.others }) in
-    fresh_one_map c.args.capacity c.replace-source.new.dest is g.K.PartialEq.eq g.met.K.Eq.laws (g.H.KeyHash.hash_of c.self.inside.hasher)
+    fresh_counted c.args.capacity c.replace-source.new.dest is g.K.PartialEq.eq g.met.K.Eq.laws (g.H.KeyHash.hash_of c.self.inside.hasher)
 
 pub pour_all-requires : goal.pour_all-requires
 pour_all-requires g c =
     let made = c.in_ok-fresh.ensures in
     let is : IsFresh c.args.capacity c.replace-source.new.dest =
     rw c.replace-source.ensures.after (record { array = made.array; full = made.full; others = made.others }) in
-    let distinct = c.self.invariant.distinct in (
+    let distinct = c.self.invariant.one_map.distinct in (
       search rules,
       (
         omega arith,

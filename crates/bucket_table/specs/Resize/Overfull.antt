@@ -1,0 +1,31 @@
+-- A growth for one bucket with far more pairs than own slots, whatever the samples of a resize say.
+use Rattle.std.specs.Prelude.{ℕ, ◌*◌, ◌≤◌, ◌≡◌, Bool, true, false, Result, Ok, Err, length}
+use Rattle.bucket_slots.specs.ArrayView.{bucket_at}
+use Rattle.bucket_slots.specs.BucketView.{pairs_in}
+use Rattle.bucket_slots.specs.Homes.{IsHome}
+use Rattle.bucket_table.specs.Resize.Resizing.{IsPushed}
+use Rattle.bucket_table.specs.Views.ArraysView.{ArraysView, pairs_of}
+
+-- no old array stands, and a hash's home has 48 live pairs or more
+pub record HasFullHome {K V : Type 0} (hash : ℕ) (arrays : ArraysView K V) : Type 0 where
+  pub index : ℕ
+  pub alone : length arrays.linked ≡ 0
+  pub home : IsHome (length arrays.current) hash index
+  pub full : 48 ≤ length (pairs_in (bucket_at arrays.current index))
+
+-- so it is, there is a pair for each 8 slots, and twice the slots pass no maximum
+pub record IsOverfull {K V : Type 0} (hash : ℕ) (arrays : ArraysView K V) : Type 0 where
+  pub bucket : HasFullHome hash arrays
+  pub many : 4 * length arrays.current ≤ length (pairs_of arrays)
+  pub may_grow : 64 * length arrays.current ≤ arrays.maximum
+
+-- then the current array becomes the old one, and an empty one of twice its slots the current one
+pub record GrowsOverfull {K V : Type 0} (hash : ℕ) (old new : ArraysView K V) : Type 0 where
+  pub overfull : IsOverfull hash old
+  pub pushed : IsPushed (64 * length old.current) old new
+
+-- whether the arrays grow so: they do where a hash's home is overfull, unless allocation fails
+abbrev pub GrowsIfOverfull : {K V E : Type 0} → ℕ → ArraysView K V → Result Bool E → ArraysView K V → Type 0
+GrowsIfOverfull hash old (Ok true) new = GrowsOverfull hash old new
+GrowsIfOverfull hash old (Ok false) new = (IsOverfull hash old → ⊥) × (new ≡ old)
+GrowsIfOverfull hash old (Err refused) new = IsOverfull hash old × (new ≡ old)
