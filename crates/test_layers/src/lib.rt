@@ -16,6 +16,8 @@ mod caches;
 #[cfg(test)]
 mod checks;
 #[cfg(test)]
+mod comparisons;
+#[cfg(test)]
 mod courses;
 #[cfg(test)]
 mod cursors;
@@ -23,6 +25,8 @@ mod cursors;
 mod data_blocks;
 #[cfg(test)]
 mod drops;
+#[cfg(test)]
+mod emptied;
 #[cfg(test)]
 mod epochs;
 pub mod going_on;

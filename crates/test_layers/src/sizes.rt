@@ -6,14 +6,14 @@ ghost use Rattle.bucket_slots.specs.Sizing.{IsPowerIn};
 use crate::checks::check_same;
 use crate::steps::steps;
 use Size::*;
-use bucket_slots::bucket::MAP;
+use bucket_slots::bucket::{AllocError, MAP};
 use bucket_slots::bucket_array::{
     BucketArray, full_sample_size_of, large_sample_size_of, small_sample_size_of,
 };
 use bucket_table::hash_table::{
     from_index_to_range, num_entries_from_hint, table_capacity_from_num_entries,
 };
-use std::alloc::{AllocError, Global};
+use std::alloc::Global;
 use std::process::Abort;
 
 type Array = BucketArray<u64, u64, (), MAP>;

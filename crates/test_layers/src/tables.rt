@@ -69,7 +69,7 @@ pub(crate) enum Step {
     Ends(usize),
     /// A ticket is none that is open.
     Lost(usize),
-    /// Whether a look-up by a probe finds a key, and with how many keys the probe is called.
+    /// Whether a look-up finds a key, and with how many keys it is compared.
     Asks(u64, bool, u64),
     /// The present array, or the one that is made, has so many buckets.
     Makes(usize),

@@ -1,4 +1,4 @@
-//! Walks over a table, cursors and sweeps, counted look-ups, and rehashes that are finished.
+//! Walks over a table, cursors and sweeps, and rehashes that are finished.
 ghost use Rattle.std.specs.Prelude.{◌≡◌, false};
 ghost use Rattle.bucket_table.specs.Rehash.Finishing.{IsUnopened};
 ghost use Rattle.bucket_table.specs.Walking.Walks.{IsKeptBy};
@@ -108,13 +108,6 @@ const STORIES: &[Story] = steps! {
         minimum: 4096, start: TWO_UNITS, steps: steps! {
             Opens(0), Works(0, 64), Ends(0), Sees(8192, Some(2048)), Finishes(1),
             Sees(8192, None), Holds(5) } },
-    Story { name: "a look-up asks the keys with the byte in two homes",
-        hasher: ScriptHash::Spread, minimum: 0, start: DOUBLED,
-        steps: steps! { Asks(5, true, 1), Asks(40, false, 0), Sees(128, Some(0)) } },
-    // The newest block of the chain has keys 36 to 39, and comes before that of 32 to 35.
-    Story { name: "a look-up asks in slot order", hasher: ScriptHash::Zero, minimum: 0,
-        start: steps! { Puts(0, 40) }, steps: steps! {
-            Asks(31, true, 32), Asks(36, true, 33), Asks(35, true, 40), Asks(99, false, 40) } },
     Story { name: "a walk takes pairs out and leaves a short array", hasher: ScriptHash::Id,
         minimum: 0, start: steps! { Puts(1, 4) }, steps: steps! {
             Strips(2, 3), Sees(64, None),
