@@ -2,9 +2,10 @@
 //! same hash.
 //!
 //! The arguments say what runs: `table`, `collections` or `map`, then `calls`, `large` or `single`,
-//! and a number of pairs; `cache` or `lru`, then `calls` and a number of pairs; or `arrays`. Small
-//! numbers of pairs run several times. Without arguments all courses run once, over few pairs, and
-//! nothing is printed that varies.
+//! and a number of pairs; `cache` or `lru`, then `calls` and a number of pairs; `shapes`, then a
+//! group of shapes and a number of pairs; or `arrays`. Small numbers of pairs run several times.
+//! Without arguments all courses but the shapes run once, over few pairs, and nothing is printed that
+//! varies.
 #![tactic(auto)]
 
 mod arrays;
@@ -14,12 +15,14 @@ mod course;
 mod hashes;
 mod measured;
 mod resident;
+mod shapes;
 
 use crate::arrays::run_arrays;
 use crate::cached::{Bucketed, Listed, run_cache};
 use crate::collected::Collected;
 use crate::course::{run_calls, run_large, run_single};
 use crate::measured::{Map, Measured, Table};
+use crate::shapes::run_shapes;
 use std::{env, io};
 
 /// The number of pairs that a run has at least, all courses taken together.
@@ -46,6 +49,7 @@ fn main(rt: HostRuntime) -> io::Result<()> {
             "table" => run_course::<Table>(&rt, course.as_str(), pairs)?,
             "collections" => run_course::<Collected>(&rt, course.as_str(), pairs)?,
             "map" => run_course::<Map>(&rt, course.as_str(), pairs)?,
+            "shapes" => run_shapes(&rt, course.as_str(), pairs)?,
             _ => return Err(io::Error::from(io::ErrorKind::InvalidInput)),
         }
     }

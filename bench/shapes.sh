@@ -1,0 +1,119 @@
+#!/usr/bin/env bash
+# Prints what a program pays that takes the pairs of one collection to another, or goes through them
+# in the order of their slots, on the collections and, where `rustc` is there, on those of Rust's
+# standard library: under the collections' default hash ('same'), and under std's own. In these orders
+# keys of one bucket come one after the other. Also printed are the longest insertion of a copy, calls
+# that only count, and collections of few pairs.
+#
+# A figure is a median. Where std has no such collection, as an index, its map stands beside. The
+# machine's load stands in the first line: other work beside it changes what a call costs. It asserts
+# nothing.
+#
+# Called as `bench/shapes.sh [ROUNDS]`. Without a number there are 3 rounds. With PROGRAM=FILE it runs
+# that program, built of crates/bench_table, and proves nothing.
+set -eu
+root=$(dirname -- "$(dirname -- "$(readlink -f -- "${BASH_SOURCE[0]}")")")
+rounds=${1:-3}
+
+# Gives $folder, which goes at the end. The program is proved and built where it has to be.
+source "$root/trials/lib/running.sh"
+if [ -n "${PROGRAM:-}" ]; then
+    program=$PROGRAM
+else
+    prepare bench_table
+fi
+columns=here
+if command -v rustc >/dev/null; then
+    rustc -O --edition 2021 -o "$folder/std_shapes" "$root/bench/std_shapes.rs"
+    columns="here same default"
+fi
+
+# run COLUMN GROUP PAIRS: runs a group of shapes.
+run() {
+    case $1 in
+        here) "$program" shapes "$2" "$3" ;;
+        *) "$folder/std_shapes" "$2" "$3" "$1" ;;
+    esac
+}
+
+# Built by now, so that what is told is the load of other work, in the minute before.
+load=$(cut -d ' ' -f 1 /proc/loadavg)
+echo "load: $load"
+if awk -v load="$load" 'BEGIN { exit load <= 0.5 }'; then
+    echo "The load is above 0.5: times are those of a busy machine."
+fi
+
+jobs=({map,set,index,cache}\ {1000,8000,64000,512000} small\ 64000 longest\ 128000
+    counts\ {1000,64000,1000000} crowd\ 10000)
+
+# A line for each figure: the column, the pairs, the nanoseconds a pair or call, the share of pairs that
+# are left, and the shape.
+for ((round = 0; round < rounds; round++)); do
+    for job in "${jobs[@]}"; do
+        read -r group pairs <<<"$job"
+        for column in $columns; do
+            run "$column" "$group" "$pairs" |
+                awk -v column="$column" -v pairs="$pairs" '{
+                    name = $4
+                    for (i = 5; i <= NF; i++) name = name " " $i
+                    printf "%s\t%s\t%.2f\t%.4f\t%s\n", column, pairs, $1 / $2, $3 / pairs, name
+                }'
+        done
+    done
+done >"$folder/figures"
+sort -t "$(printf '\t')" -k3,3g "$folder/figures" >"$folder/sorted"
+
+# Reads the figures twice: as they came, for the order of the shapes, and by size.
+awk -F '\t' -v columns="$columns" '
+    NR == FNR { if (!seen[$5]++) shape[++shapes] = $5; next }
+    {
+        group = $1 " " $2 " " $5
+        figures[group, ++count[group]] = $3
+        left[group] = $4
+    }
+    function shown(x) { return sprintf(x < 100 ? "%.1f" : "%.0f", x) }
+    function figure(column, size, name, unit,    group, n) {
+        group = column " " size " " name
+        n = count[group]
+        return n ? shown(figures[group, int((n + 1) / 2)] / unit) : "-"
+    }
+    function head(title, names,    c, text) {
+        text = sprintf("%-36s", title)
+        for (c = 1; c <= kinds; c++)
+            for (s = 1; s <= sizes; s++)
+                text = text sprintf("%10s", s > 1 ? size[s] : kind[c] " " size[s])
+        print ""
+        print text
+    }
+    function line(name, label, unit,    c, s, text) {
+        text = sprintf("%-36s", "  " label)
+        for (c = 1; c <= kinds; c++)
+            for (s = 1; s <= sizes; s++)
+                text = text sprintf("%10s", figure(kind[c], size[s], name, unit))
+        print text
+    }
+    function table(title, names, unit, prefix,    i) {
+        head(title)
+        for (i = 1; i <= shapes; i++)
+            if (shape[i] ~ names) line(shape[i], substr(shape[i], prefix), unit)
+    }
+    END {
+        kinds = split(columns, kind)
+        small = "insert 3|insert, remove|insert 1|3 pairs|longest"
+        sizes = split("1000 8000 64000 512000", size)
+        head("ns a pair")
+        for (i = 1; i <= shapes; i++)
+            if (shape[i] !~ small && shape[i] !~ /^(counts|crowd)/) line(shape[i], shape[i], 1)
+        text = sprintf("%-36s", "  cache: % that a loop keeps")
+        for (s = 1; s <= sizes; s++)
+            text = text sprintf("%10s", sprintf("%.2f", 100 * left["here " size[s] " cache: loop"]))
+        print text
+        sizes = split("1000 64000 1000000", size)
+        table("ns a call, by pairs", "^counts", 1, 9)
+        sizes = split("10000", size)
+        table("ns a call, all keys of one hash", "^crowd", 1, 8)
+        sizes = split("64000", size)
+        table("ns a round, of few pairs", "insert 3|insert, remove|insert 1|3 pairs", 1, 1)
+        sizes = split("128000", size)
+        table("us, the longest of a copy", "longest", 1000, 1)
+    }' "$folder/figures" "$folder/sorted"
