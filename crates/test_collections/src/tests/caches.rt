@@ -84,17 +84,23 @@ pub(super) struct Story {
     pub(super) steps: &'static [Step],
 }
 
-// Under the hash 0 all keys have one bucket, of 32 own slots, and the cache keeps its 64. Under the
-// hash that spreads low bytes the keys below 128 have the first of two buckets, and those below 64
-// the first of four.
+// Under the hash 0 all keys have one bucket, of 32 own slots. Each pair that comes to it when it is
+// full doubles the slots, up to the maximum, and evicts a pair all the same. Under the hash that
+// spreads low bytes the keys below 128 have the first of two buckets, and those below 64 the first
+// of four.
 const STORIES: &[Story] = steps! {
     Story { name: "the pair touched longest ago goes from a full home", hasher: ScriptHash::Zero,
         made: Within(0, 256), steps: steps! {
             Slots(0), Fills(0, 32), Slots(64), Len(32), Gets(0, Some(0)),
-            Puts(32, 320, Some((1, 1))), Len(32), Holds(1, None), Holds(0, Some(0)),
-            Holds(32, Some(320)), Puts(33, 330, Some((2, 2))), Gets(3, Some(3)),
+            Puts(32, 320, Some((1, 1))), Slots(128), Len(32), Holds(1, None), Holds(0, Some(0)),
+            Holds(32, Some(320)), Puts(33, 330, Some((2, 2))), Slots(256), Gets(3, Some(3)),
             Puts(34, 340, Some((4, 4))),
-            Holds(3, Some(3)), Slots(64), Len(32) } },
+            Holds(3, Some(3)), Slots(256), Len(32) } },
+    // A full home of two buckets is one of four that has half of its pairs.
+    Story { name: "slots are doubled before a pair is evicted", hasher: ScriptHash::Spread,
+        made: Within(0, 128), steps: steps! {
+            Fills(32, 64), Slots(64), Fills(64, 96), Slots(128), Len(64),
+            Puts(0, 1, Some((32, 32))), Slots(128), Len(64) } },
     // The keys 3 to 31 are evicted first, then the touched ones, and then those that were put for
     // them.
     Story { name: "pairs go in the order of their touches", hasher: ScriptHash::Zero,
