@@ -43,7 +43,6 @@ use sizing::MINIMUM_CAPACITY;
 pub use sizing::{MAXIMUM_SLOTS, full_sample_size_of, large_sample_size_of, small_sample_size_of};
 use std::alloc::{AllocError, Global};
 use std::marker::Model;
-use std::mem::ManuallyDrop;
 pub use writing::NotPut;
 
 /// Buckets of the kind `TYPE` with LRU lists `L`, each the home of an interval of hashes.
@@ -76,6 +75,7 @@ impl<K, V, L: LruList, const TYPE: u8> Model for BucketArray<K, V, L, TYPE> {
         × AreDigests array.digests (flattened array.parts.items) };
 }
 
+/// The slice of the spare buckets states that a bucket fits in memory.
 impl<K: Drop, V: Drop, L: LruList + Drop, const TYPE: u8> Drop for BucketArray<K, V, L, TYPE> {
     fn drop(self) {
         let BucketArray {
@@ -89,11 +89,8 @@ impl<K: Drop, V: Drop, L: LruList + Drop, const TYPE: u8> Drop for BucketArray<K
             digests: _,
         } = self;
         drop(parts);
-        if fits_in_memory::<Bucket<K, V, L, TYPE>>() {
-            drop(spare);
-        } else {
-            let _kept = unsafe { ManuallyDrop::new_unchecked(spare) };
-        }
+        let _ = spare.as_slice();
+        drop(spare);
     }
 }
 

@@ -16,12 +16,10 @@ ghost use Rattle.bucket_slots.specs.Slots.{is_live, slot_at};
 ghost use Rattle.bucket_slots.specs.Spreading.{IsShifted, SpreadsSome};
 
 use crate::bucket::Bucket;
-use crate::bucket::room::fits_in_memory;
 use crate::lru::LruList;
 use std::alloc::{AllocError, Global};
 use std::marker::Model;
 use std::mem;
-use std::mem::ManuallyDrop;
 
 /// How many parts are searched for one in which no bucket is made.
 const FRESH_TRIES: usize = 8;
@@ -42,13 +40,15 @@ impl<K, V, L: LruList, const TYPE: u8> Model for Part<K, V, L, TYPE> {
     ghost view = { λ part. with_unmade part.made.items (vec_capacity part.made) part.released };
 }
 
+/// A slice of a bucket states that a bucket fits in memory.
 impl<K: Drop, V: Drop, L: LruList + Drop, const TYPE: u8> Drop for Part<K, V, L, TYPE> {
     fn drop(self) {
         let Part { made, released: _ } = self;
-        if fits_in_memory::<Bucket<K, V, L, TYPE>>() {
+        if 0 < made.len() {
+            let _ = made.as_slice();
             drop(made);
         } else {
-            let _kept = unsafe { ManuallyDrop::new_unchecked(made) };
+            made.destroy_empty();
         }
     }
 }
