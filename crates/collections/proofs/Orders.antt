@@ -59,7 +59,6 @@ module _ {K V H : Type 0} (hash : ℕ) (old new : TableView K V H) where
   }
 
   module _ (eq : K → K → Bool) (laws : IsEquivalence eq) (distinct : IsDistinct eq (keys_of (pairs_of old.arrays))) where
-
     -- what the table puts where it found a bucket
     pub puts_home : (pair : K × V) (r : Result (Option (K × V)) (NotInserted K V)) (answer : Result (Side × ℕ) (Unit {0}))
         (between : TableView K V H) → Finds 67 hash old answer between → PutsAt true pair (hash % 256) between r answer new

@@ -185,8 +185,12 @@ fn a_map_of_one_hash_grows_no_further(rt: HostRuntime) -> Result<(), Fail> {
 #[test]
 fn a_cache_grows_before_it_evicts(rt: HostRuntime) -> Result<(), Fail> {
     let from = filled(rt.alloc());
-    let mut to: HashCache<u64, u64> =
-        HashCache::with_capacity(rt.alloc(), DefaultHash::default(), 0, 65536);
+    let mut to: HashCache<u64, u64> = HashCache::with_capacity(
+        rt.alloc(),
+        DefaultHash::default(),
+        0,
+        65536,
+    );
     for (key, value) in &from {
         let _ = to.put(*key, *value);
     }
