@@ -320,9 +320,9 @@ impl<K: Eq + Drop, V: Drop, H: KeyHash<K>> HashCache<K, V, H> {
             .table
             .fetch_place(hash, &mut FormProbe::<&K, H>::new(&key))
         {
-            Ok(_) => {
+            Ok(_spot) => {
                 self.table.sound();
-                Err(NotInserted::Present(key, value))
+                return Err(NotInserted::Present(key, value));
             }
             Err(home) => self.put_vacant(home, hash, key, value),
         }

@@ -20,7 +20,8 @@ returns-in-Ok-clause-map g c =
 
 pub returns-in-Ok-clause-home : goal.returns-in-Ok-clause-home
 returns-in-Ok-clause-home g c =
-    rw (← c.self.view_is) (prepared_leaves _ c.self.inside.table c.fetch_place.new.self c.fetch_place.ensures.prepared)
+    rw (← c.self.view_is) (prepared_leaves _ c.self.inside.table c.fetch_place.new.self c.fetch_place.new.self
+    c.fetch_place.ensures.prepared)
 
 pub put_vacant-requires : goal.put_vacant-requires
 put_vacant-requires g c =
@@ -32,10 +33,23 @@ put_vacant-requires g c =
       ready = λ is. rw is at e.vacancy;
     }
 
-pub returns-in-Err : goal.returns-in-Err
-returns-in-Err g c =
-    let e = c.in-Err.ensures in
-    let put = rw c.hash-hash.ensures at (c.put_vacant.ensures.put c.self.inside.table c.fetch_place.ensures.prepared e.vacancy) in
-    let answers = vacant_put g.K.PartialEq.eq g.H.KeyHash.hash_of c.args.key c.args.value _ c.self.inside.table c.put_vacant.new.self
-    c.put_vacant.result put in
-    rw (← c.self.view_is) (record { map = answers.0; home = answers.1; memory = answers.2 })
+pub returns-clause-map : goal.returns-clause-map
+returns-clause-map g c =
+    let put = rw c.hash-hash.ensures at (c.put_vacant.ensures.put c.self.inside.table c.fetch_place.ensures.prepared
+    c.in-Err.ensures.vacancy) in
+    rw (← c.self.view_is) (vacant_put g.K.PartialEq.eq g.H.KeyHash.hash_of c.args.key c.args.value _ c.self.inside.table
+    c.put_vacant.new.self c.put_vacant.result put).0
+
+pub returns-clause-home : goal.returns-clause-home
+returns-clause-home g c =
+    let put = rw c.hash-hash.ensures at (c.put_vacant.ensures.put c.self.inside.table c.fetch_place.ensures.prepared
+    c.in-Err.ensures.vacancy) in
+    rw (← c.self.view_is) (vacant_put g.K.PartialEq.eq g.H.KeyHash.hash_of c.args.key c.args.value _ c.self.inside.table
+    c.put_vacant.new.self c.put_vacant.result put).1
+
+pub returns-clause-memory : goal.returns-clause-memory
+returns-clause-memory g c =
+    let put = rw c.hash-hash.ensures at (c.put_vacant.ensures.put c.self.inside.table c.fetch_place.ensures.prepared
+    c.in-Err.ensures.vacancy) in
+    rw (← c.self.view_is) (vacant_put g.K.PartialEq.eq g.H.KeyHash.hash_of c.args.key c.args.value _ c.self.inside.table
+    c.put_vacant.new.self c.put_vacant.result put).2
