@@ -64,7 +64,7 @@ impl<K: Eq, V, H: KeyHash<K>, L: LruList, const TYPE: u8> HashTable<K, V, H, L, 
     /// O(1). scc: `HashMap::len`.
     #[inline(always)]
     pub fn len(&self) -> usize
-        ensures count { result ≡ counted_to (pairs_of self.now.arrays) }
+        ensures { result ≡ counted_to (pairs_of self.now.arrays) }
     {
         self.count
     }
