@@ -1,8 +1,7 @@
--- The marks of an index bucket after an insertion: those that it lets go are out, and the others stand as they stood.
-use Rattle.std.proofs.Common.{ℕ, ◌≡◌, ◌++◌, Bool, true, false, if◌then◌else◌, List, [], ◌∷◌, filter, flat_map, get_or}
-use Rattle.std.proofs.Common.{map, set, suc, zero, inl, inr, refl, sym, ap, ◌∙◌}
-use Rattle.std.proofs.lemmas.Bool.{cases_Bool}
-use Rattle.std.proofs.lemmas.List.Elements.{filter-append, filter_map-append}
+-- The tombstones of an index bucket after an insertion: it drops all of them or none.
+use Rattle.std.proofs.Common.{ℕ, ◌≡◌, ◌++◌, Bool, true, false, if◌then◌else◌, List, [], ◌∷◌, flat_map, get_or}
+use Rattle.std.proofs.Common.{map, set, suc, zero, refl, sym, ap, ◌∙◌}
+use Rattle.std.proofs.lemmas.List.Elements.{filter_map-append}
 use Rattle.bucket_slots.specs.BucketView.{BucketView, block_at, flattened, marks_in, with_slot_at}
 use Rattle.bucket_slots.specs.Clearing.{looks_at_marks, rows_without_free_end, slot_without_expired, slots_after_insertion}
 use Rattle.bucket_slots.specs.Clearing.{slots_without_expired, slots_without_free_end}
@@ -12,18 +11,15 @@ use Rattle.bucket_slots.proofs.CallerLemmas.{filter_map-chain, filter_map-flatte
 use Rattle.bucket_slots.proofs.CallerLemmas.{same_made, suffix_passes}
 
 -- another element that gives the same
-pub flat_map-set : {A B : Type 0} (f : A → List B) (items : List A) (i : ℕ) (a d : A) → f a ≡ f (get_or items i d)
+flat_map-set : {A B : Type 0} (f : A → List B) (items : List A) (i : ℕ) (a d : A) → f a ≡ f (get_or items i d)
     → flat_map f (set items i a) ≡ flat_map f items
 flat_map-set f [] i a d same = refl
 flat_map-set f (c ∷ items) zero a d same = ap (λ l. l ++ flat_map f items) same
 flat_map-set f (c ∷ items) (suc i) a d same = ap (λ l. f c ++ l) (flat_map-set f items i a d same)
 
-filter-again : {A : Type 0} (test : A → Bool) (items : List A) → filter test (filter test items) ≡ filter test items
-filter-again test [] = refl
-filter-again test (a ∷ items) = elim (cases_Bool (test a)) [
-  | inl passes ↦ rw (passes, passes, filter-again test items) refl
-  | inr fails ↦ rw fails (filter-again test items)
-]
+-- no tombstone is kept
+abbrev pub none_kept : ℕ → Bool
+none_kept epoch = false
 
 module _ {K V : Type 0} where
   -- another slot that has the same mark, or none
@@ -63,55 +59,35 @@ module _ {K V : Type 0} where
       (λ i from below. no_mark (get_or s.chain i []) (suffix_passes all_free s.chain i [] from below))
       ∙ sym (filter_map-flattened marked_entry s.chain))
 
-  module _ (keeps : ℕ → Bool) where
-    -- the marks whose epoch is kept
-    abbrev pub kept : List ((K × V) × ℕ) → List ((K × V) × ℕ)
-    kept marks = filter (λ mark. keeps mark.1) marks
+  -- no tombstone is left where none is kept
+  row_unexpired : (row : List (Slot K V)) → marked_entries (map (slot_without_expired none_kept) row) ≡ []
+  row_unexpired [] = refl
+  row_unexpired (free ∷ row) = row_unexpired row
+  row_unexpired (live pair byte ∷ row) = row_unexpired row
+  row_unexpired (marked pair epoch ∷ row) = row_unexpired row
 
-    row_unexpired : (row : List (Slot K V)) → marked_entries (map (slot_without_expired keeps) row) ≡ kept (marked_entries row)
-    row_unexpired [] = refl
-    row_unexpired (free ∷ row) = row_unexpired row
-    row_unexpired (live pair byte ∷ row) = row_unexpired row
-    row_unexpired (marked pair epoch ∷ row) = elim (cases_Bool (keeps epoch)) [
-      | inl stays ↦ rw stays (ap (λ l. (pair, epoch) ∷ l) (row_unexpired row))
-      | inr goes ↦ rw goes (row_unexpired row)
-    ]
+  rows_unexpired : (rows : List (List (Slot K V))) → marked_entries (flattened (map (map (slot_without_expired none_kept)) rows)) ≡ []
+  rows_unexpired [] = refl
+  rows_unexpired (row ∷ rows) =
+      rw (
+        filter_map-append marked_entry (map (slot_without_expired none_kept) row)
+            (flattened (map (map (slot_without_expired none_kept)) rows)),
+        row_unexpired row,
+        rows_unexpired rows,
+      ) refl
 
-    rows_unexpired : (rows : List (List (Slot K V)))
-        → marked_entries (flattened (map (map (slot_without_expired keeps)) rows)) ≡ kept (marked_entries (flattened rows))
-    rows_unexpired [] = refl
-    rows_unexpired (row ∷ rows) =
-        rw (
-          filter_map-append marked_entry (map (slot_without_expired keeps) row) (flattened (map (map (slot_without_expired keeps)) rows)),
-          filter_map-append marked_entry row (flattened rows),
-          filter-append (λ mark. keeps mark.1) (marked_entries row)
-              (marked_entries (flattened rows)),
-          row_unexpired row,
-          rows_unexpired rows,
-        ) refl
+  -- what is left after an insertion, which drops tombstones or doesn't
+  abbrev pub left_of : Bool → List ((K × V) × ℕ) → List ((K × V) × ℕ)
+  left_of looks marks = if looks then [] else marks
 
-    -- what stands after an insertion, that looks at marks or doesn't
-    abbrev pub left_of : Bool → List ((K × V) × ℕ) → List ((K × V) × ℕ)
-    left_of looks marks = if looks then kept marks else marks
+  inserted : (s : BucketView K V) (pair : K × V) (byte : ℕ) (looks : Bool) → marks_in (if looks
+      then slots_without_free_end (slots_with (slots_without_expired none_kept s) pair byte) else slots_with s pair byte)
+      ≡ left_of looks (marks_in s)
+  inserted s pair byte true =
+      let cleared = slots_without_expired none_kept s in
+      end (slots_with cleared pair byte) ∙ put cleared pair byte ∙ rows_unexpired (s.own ∷ s.chain)
+  inserted s pair byte false = put s pair byte
 
-    inserted : (s : BucketView K V) (pair : K × V) (byte : ℕ) (looks : Bool) → marks_in (if looks
-        then slots_without_free_end (slots_with (slots_without_expired keeps s) pair byte) else slots_with s pair byte)
-        ≡ left_of looks (marks_in s)
-    inserted s pair byte true =
-        let cleared = slots_without_expired keeps s in
-        end (slots_with cleared pair byte) ∙ put cleared pair byte ∙ rows_unexpired (s.own ∷ s.chain)
-    inserted s pair byte false = put s pair byte
-
-    pub marks_in-slots_after_insertion : (kind : ℕ) (s : BucketView K V) (pair : K × V) (byte : ℕ)
-        → marks_in (slots_after_insertion kind keeps s pair byte) ≡ left_of (looks_at_marks kind s) (marks_in s)
-    marks_in-slots_after_insertion kind s pair byte = inserted s pair byte (looks_at_marks kind s)
-
-    -- what is kept stands
-    kept-left_of : (looks : Bool) (marks : List ((K × V) × ℕ)) → kept (left_of looks marks) ≡ kept marks
-    kept-left_of true marks = filter-again (λ mark. keeps mark.1) marks
-    kept-left_of false marks = refl
-
-    pub kept_after_insertion : (kind : ℕ) (s : BucketView K V) (pair : K × V) (byte : ℕ)
-        → kept (marks_in (slots_after_insertion kind keeps s pair byte)) ≡ kept (marks_in s)
-    kept_after_insertion kind s pair byte =
-        ap kept (marks_in-slots_after_insertion kind s pair byte) ∙ kept-left_of (looks_at_marks kind s) (marks_in s)
+  pub marks_in-slots_after_insertion : (kind : ℕ) (s : BucketView K V) (pair : K × V) (byte : ℕ)
+      → marks_in (slots_after_insertion kind none_kept s pair byte) ≡ left_of (looks_at_marks kind s) (marks_in s)
+  marks_in-slots_after_insertion kind s pair byte = inserted s pair byte (looks_at_marks kind s)

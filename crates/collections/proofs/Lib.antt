@@ -10,7 +10,6 @@ pub mod InsertedMarks
 pub mod Marks
 pub mod StayingMarks
 pub mod RemovedMarks
-pub mod KeptMarks
 pub mod IndexRoom
 pub mod Moving
 pub mod Orders

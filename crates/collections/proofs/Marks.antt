@@ -1,12 +1,10 @@
 -- That no mark is new where a table inserts.
 use Rattle.std.proofs.Common.{ℕ, ◌≡◌, Bool, true, false, Result, Ok, Err, List, [], ◌∷◌, ap, arith, length, refl, sym}
 use Rattle.std.proofs.Common.{subst}
-use Rattle.std.specs.List.{Contains}
-use Rattle.std.proofs.lemmas.List.Elements.{All-contains, All-contains_itself, All-filter}
 use Rattle.bucket_slots.specs.BucketView.{BucketView, marks_in}
 use Rattle.bucket_slots.specs.Clearing.{looks_at_marks, slots_after_insertion}
 use Rattle.bucket_slots.specs.Marking.{HasNoNewMark}
-use Rattle.bucket_slots.proofs.CallerLemmas.{no_new-append, no_new-refl, no_new-same, no_new-trans}
+use Rattle.bucket_slots.proofs.CallerLemmas.{no_new-append, no_new-none, no_new-refl, no_new-same, no_new-trans}
 use Rattle.bucket_table.specs.Views.ArraysView.{ArraysView, TableView, marks_of}
 use Rattle.bucket_table.specs.Views.Sides.{arrays_with, bucket_on}
 use Rattle.bucket_table.specs.Rehash.Relocation.{marks_among}
@@ -17,22 +15,18 @@ use Rattle.bucket_table.specs.declared.hash_table.NotInserted.TheVariants.{Memor
 use Rattle.bucket_table.proofs.CallerLemmas.{marks_among-set}
 use Rattle.bucket_table.specs.declared.arrays.side.Side.{Side}
 use Rattle.bucket_table.specs.declared.arrays.side.Side.TheVariants.{Current, Old}
-use Rattle.collections.proofs.InsertedMarks.{kept, left_of, marks_in-slots_after_insertion}
+use Rattle.collections.proofs.InsertedMarks.{left_of, marks_in-slots_after_insertion, none_kept}
 
 module _ {K V : Type 0} where
-  -- marks that are let go
-  pub no_new-left : (keeps : ℕ → Bool) (looks : Bool) (marks : List ((K × V) × ℕ)) → HasNoNewMark marks (left_of keeps looks marks)
-  no_new-left keeps true marks = record {
-    stood = λ mark there. All-contains (Contains marks) (kept keeps marks) mark
-        (All-filter (λ mark. keeps mark.1) (Contains marks) marks (All-contains_itself marks)) there;
-  }
-  no_new-left keeps false marks = no_new-refl marks
+  no_new-left : (looks : Bool) (marks : List ((K × V) × ℕ)) → HasNoNewMark marks (left_of looks marks)
+  no_new-left true marks = no_new-none marks
+  no_new-left false marks = no_new-refl marks
 
-  -- an insertion into a bucket brings no mark, whatever it lets go
-  no_new-after_insertion : (kind : ℕ) (keeps : ℕ → Bool) (s : BucketView K V) (pair : K × V) (byte : ℕ)
-      → HasNoNewMark (marks_in s) (marks_in (slots_after_insertion kind keeps s pair byte))
-  no_new-after_insertion kind keeps s pair byte =
-      rw (marks_in-slots_after_insertion keeps kind s pair byte) (no_new-left keeps (looks_at_marks kind s) (marks_in s))
+  -- an insertion into a bucket brings no mark
+  no_new-after_insertion : (kind : ℕ) (s : BucketView K V) (pair : K × V) (byte : ℕ)
+      → HasNoNewMark (marks_in s) (marks_in (slots_after_insertion kind none_kept s pair byte))
+  no_new-after_insertion kind s pair byte =
+      rw (marks_in-slots_after_insertion kind s pair byte) (no_new-left (looks_at_marks kind s) (marks_in s))
 
   -- nor does another bucket that brings none to its own
   pub marks_of-arrays_with : (arrays : ArraysView K V) (side : Side) (index : ℕ) (left : BucketView K V)
@@ -54,14 +48,14 @@ module _ {K V H : Type 0} (kind hash : ℕ) (old new : TableView K V H) where
   found (Ok at) finds = finds.kept.marks
   found (Err e) refused = refused.prepared.kept.keeps.marks
 
-module _ {K V H A : Type 0} (kind : ℕ) (keeps : ℕ → Bool) (pair : K × V) (byte : ℕ) where
+module _ {K V H A : Type 0} (kind : ℕ) (pair : K × V) (byte : ℕ) where
   inserted_at : (old : TableView K V H) (r : Result A (NotInserted K V)) (answer : Result (Side × ℕ) (Unit {0})) (new : TableView K V H)
-      → InsertsAt kind keeps pair byte old r answer new
+      → InsertsAt kind none_kept pair byte old r answer new
       → HasNoNewMark (marks_of old.arrays) (marks_of new.arrays)
   inserted_at old (Ok done) (Ok at) new is =
-      let left = slots_after_insertion kind keeps (bucket_on old.arrays at.0 at.1) pair byte in
+      let left = slots_after_insertion kind none_kept (bucket_on old.arrays at.0 at.1) pair byte in
       let put = marks_of-arrays_with old.arrays at.0 at.1 left
-      (no_new-after_insertion kind keeps (bucket_on old.arrays at.0 at.1) pair byte) in
+      (no_new-after_insertion kind (bucket_on old.arrays at.0 at.1) pair byte) in
       subst (λ (table : TableView K V H). HasNoNewMark (marks_of old.arrays) (marks_of table.arrays)) (sym is) put
   inserted_at old (Ok done) (Err e) new none = absurd none
   inserted_at old (Err (Present k v)) answer new same = rw same (no_new-refl (marks_of old.arrays))
@@ -70,7 +64,7 @@ module _ {K V H A : Type 0} (kind : ℕ) (keeps : ℕ → Bool) (pair : K × V) 
 
   -- an insertion into a table brings no mark
   pub no_new-inserted : (hash : ℕ) (old : TableView K V H) (r : Result A (NotInserted K V)) (new : TableView K V H)
-      → FindsOrGrowsThen kind hash old (λ answer between. InsertsAt kind keeps pair byte between r answer new)
+      → FindsOrGrowsThen kind hash old (λ answer between. InsertsAt kind none_kept pair byte between r answer new)
       → HasNoNewMark (marks_of old.arrays) (marks_of new.arrays)
   no_new-inserted hash old r new f =
       no_new-trans (marks_of old.arrays) (marks_of f.between.arrays) (marks_of new.arrays)

@@ -17,7 +17,7 @@ use Rattle.bucket_table.specs.Map.ByKey.{ShrinksAt}
 use Rattle.bucket_table.specs.Map.LookingUp.{IsThere}
 use Rattle.bucket_table.specs.Map.Preparing.{IsPrepared}
 use Rattle.bucket_table.specs.Rehash.Relocation.{marks_among}
-use Rattle.bucket_table.specs.Resize.Resizing.{IsMade, IsPushed, Releases, Reserves, TriesResize, with_minimum}
+use Rattle.bucket_table.specs.Resize.Resizing.{IsPushed, Releases, Reserves, TriesResize, with_minimum}
 use Rattle.bucket_table.specs.Views.ArraysView.{ArraysView, TableView, marks_of, pairs_of}
 use Rattle.bucket_table.specs.Views.Sides.{arrays_with, bucket_on, buckets_on}
 use Rattle.collections.specs.Marks.{AddsMark, AreEarlierMarks, KeepsMarks, MarksRemoved}
@@ -63,11 +63,7 @@ module _ {K V : Type 0} where
   fresh_marks : (capacity : ℕ) (fresh : List (BucketView K V)) → IsNewArray capacity fresh → marks_among fresh ≡ []
   fresh_marks capacity fresh is = ap (λ (bs : List (BucketView K V)). marks_among bs) is.empty ∙ new_marks (length fresh)
 
-  pub marks_of-made : (old new : ArraysView K V) → IsMade old new → marks_of new ≡ marks_of old
-  marks_of-made old new made =
-      rw (made.new_is, fresh_marks old.minimum made.fresh made.fresh_is, nil_from_length old.current made.none) refl
-
-  pub marks_of-pushed : (capacity : ℕ) (old new : ArraysView K V) → IsPushed capacity old new → marks_of new ≡ marks_of old
+  marks_of-pushed : (capacity : ℕ) (old new : ArraysView K V) → IsPushed capacity old new → marks_of new ≡ marks_of old
   marks_of-pushed capacity old new pushed = rw (
     pushed.new_is,
     fresh_marks capacity pushed.fresh pushed.fresh_is,
@@ -83,7 +79,7 @@ module _ {K V : Type 0} where
     all = λ none. refl;
   }
 
-module _ {K V H : Type 0} (wants : K → Bool) (epoch hash : ℕ) (old between new : TableView K V H)
+module _ {K V H : Type 0} (wants : K → Bool) (hash : ℕ) (old between new : TableView K V H)
     (prepared : IsPrepared 79 hash old between) where
   earlier : AreEarlierMarks old.arrays (marks_of between.arrays)
   earlier = record {
@@ -101,14 +97,14 @@ module _ {K V H : Type 0} (wants : K → Bool) (epoch hash : ℕ) (old between n
   )
 
   -- the table's removal, that may shrink it
-  pub marks_removed : (removed : Bool) → ShrinksAt wants (λ bucket at. slots_marked bucket at epoch) removed between new
-      → MarksRemoved wants epoch removed old.arrays new.arrays
+  pub marks_removed : (removed : Bool) → ShrinksAt wants (λ bucket at. slots_marked bucket at 0) removed between new
+      → MarksRemoved wants removed old.arrays new.arrays
   marks_removed false same = rw same earlier
   marks_removed true (side, index, at, stands, shrinks) =
-      let bucket = slots_marked (bucket_on between.arrays side index) at epoch in
+      let bucket = slots_marked (bucket_on between.arrays side index) at 0 in
       let mid = arrays_with between.arrays side index bucket in
-      let marks = marks_of-marked between.arrays side index at epoch stands.pair stands.within stands.slot in
-      let adds : marks_of new.arrays ≡ marks_of mid → AddsMark wants epoch old.arrays new.arrays = λ same. record {
+      let marks = marks_of-marked between.arrays side index at 0 stands.pair stands.within stands.slot in
+      let adds : marks_of new.arrays ≡ marks_of mid → AddsMark wants old.arrays new.arrays = λ same. record {
         pair = stands.pair;
         there = stood stands.pair stands.there;
         earlier = marks_of between.arrays;

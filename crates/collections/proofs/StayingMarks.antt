@@ -1,24 +1,18 @@
 -- That the marks of a current array stay where old pairs move on, beside what else a call does.
-use Rattle.std.proofs.Common.{ℕ, ◌≡◌, Bool, true, false, List, [], ◌∷◌, Some, length, inl, inr, refl, suc, zero, ap, subst, sym, ◌∙◌, arith}
-use Rattle.std.proofs.lemmas.Bool.{cases_Bool, cases_lt}
+use Rattle.std.proofs.Common.{ℕ, ◌≡◌, false, List, [], ◌∷◌, Some, inl, inr, refl, suc, zero, ap, ◌∙◌, arith}
 use Rattle.std.specs.List.{Contains}
-use Rattle.std.proofs.lemmas.List.{nil_from_length}
-use Rattle.std.proofs.lemmas.List.Elements.{Contains-append_cases, Contains-append_right}
+use Rattle.std.proofs.lemmas.List.Elements.{Contains-append_cases}
 use Rattle.bucket_slots.specs.ArrayView.{bucket_at}
 use Rattle.bucket_slots.specs.BucketView.{BucketView, Place, empty_bucket, marks_in, row_at, slot_in}
 use Rattle.bucket_slots.specs.Marking.{HasNoNewMark}
 use Rattle.bucket_slots.specs.Slots.{Slot, free, is_free, live, marked, marked_entry, slot_at}
-use Rattle.bucket_slots.proofs.CallerLemmas.{no_new-at, no_new-front, no_new-none, no_new-rest, no_new-same}
-use Rattle.bucket_table.specs.Map.Finding.{MakesReady}
+use Rattle.bucket_slots.proofs.CallerLemmas.{no_new-at, no_new-front, no_new-rest}
 use Rattle.bucket_table.specs.Rehash.Relocation.{KeepsPlaces, marks_among}
-use Rattle.bucket_table.specs.Resize.Growing.{Grows}
 use Rattle.bucket_table.specs.Views.ArraysView.{ArraysView, marks_of}
 use Rattle.bucket_table.specs.Views.Sides.{buckets_on}
 use Rattle.bucket_table.specs.declared.arrays.side.Side.{Side}
 use Rattle.bucket_table.specs.declared.arrays.side.Side.TheVariants.{Current, Old}
 use Rattle.bucket_table.proofs.CallerLemmas.{from_row, in_row}
-use Rattle.collections.proofs.InsertedMarks.{kept}
-use Rattle.collections.proofs.Marks.{no_new-left}
 
 module _ {K V : Type 0} where
   mark_not_free : (slot : Slot K V) (mark : (K × V) × ℕ) → marked_entry slot ≡ Some mark → is_free slot ≡ false
@@ -59,51 +53,7 @@ module _ {K V : Type 0} where
         (no_new-at marks_in new i empty_bucket refl).stood mark ((in_bucket (bucket_at old i) (bucket_at new i) (stay i)).stood mark here);
   }
 
-  -- arrays that are made ready for a writer
-  ready : (old : ArraysView K V) (index : ℕ) (new : ArraysView K V) → MakesReady old index new
-      → HasNoNewMark (marks_among new.current) (marks_among old.current)
-  ready old index new makes = elim (cases_lt 0 (length old.linked)) [
-    | inl some ↦ in_buckets old.current new.current (makes.beside some).order.stay
-    | inr none ↦ elim (cases_lt 0 (length old.current)) [
-      | inl stands ↦
-          let same = (makes.first (omega (arith, none))).0 stands in
-          no_new-same (marks_among new.current) (marks_among old.current) (ap (λ (a : ArraysView K V). marks_among a.current) (sym same))
-      | inr lacks ↦ rw (nil_from_length old.current (omega (arith, lacks))) (no_new-none (marks_among new.current))
-    ]
-  ]
-
-  -- and that may have grown then: the bucket that was found stands in the array that was current
-  pub found_side : (old : ArraysView K V) (side : Side) (index : ℕ) (between new : ArraysView K V) → MakesReady old index between
-      → Grows side between new → HasNoNewMark (marks_among (buckets_on new side)) (marks_among old.current)
-  found_side old Old index between new makes (capacity, pushed) =
-      subst (λ (a : ArraysView K V). HasNoNewMark (marks_among a.linked) (marks_among old.current)) (sym pushed.new_is)
-      (ready old index between makes)
-  found_side old Current index between new makes same =
-      subst (λ (a : ArraysView K V). HasNoNewMark (marks_among a.current) (marks_among old.current)) (sym same)
-      (ready old index between makes)
-
   -- the marks of one array are marks
   pub on_side : (arrays : ArraysView K V) (side : Side) → HasNoNewMark (marks_of arrays) (marks_among (buckets_on arrays side))
   on_side arrays Current = no_new-front (marks_among arrays.current) (marks_among arrays.linked)
   on_side arrays Old = no_new-rest (marks_among arrays.current) (marks_among arrays.linked)
-
-  module _ (keeps : ℕ → Bool) where
-    kept_in : (marks : List ((K × V) × ℕ)) (mark : (K × V) × ℕ) → Contains marks mark → keeps mark.1 ≡ true
-        → Contains (kept keeps marks) mark
-    kept_in [] mark has stays = absurd (omega (arith, has.1))
-    kept_in (x ∷ marks) mark (zero, below, is) stays =
-        let passes : keeps x.1 ≡ true = ap (λ (m : (K × V) × ℕ). keeps m.1) is ∙ stays in
-        rw passes (0, omega arith, is)
-    kept_in (x ∷ marks) mark (suc k, below, is) stays =
-        let rest = kept_in marks mark (k, omega (arith, below), is) stays in
-        elim (cases_Bool (keeps x.1)) [
-          | inl passes ↦ rw passes (Contains-append_right (x ∷ []) (kept keeps marks) mark rest)
-          | inr fails ↦ rw fails rest
-        ]
-
-    -- where the marks that are kept are the same, each of them stands
-    pub kept_stand : (old new : List ((K × V) × ℕ)) → kept keeps new ≡ kept keeps old → (mark : (K × V) × ℕ) → Contains old mark
-        → keeps mark.1 ≡ true → Contains new mark
-    kept_stand old new same mark has stays =
-        (no_new-left keeps true new).stood mark
-        (subst (λ (marks : List ((K × V) × ℕ)). Contains marks mark) (sym same) (kept_in old mark has stays))

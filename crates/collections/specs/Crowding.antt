@@ -1,8 +1,8 @@
 -- When an insertion may fail to allocate.
-use Rattle.std.specs.Prelude.{ℕ, ◌+◌, ◌/◌, ◌<◌, ◌≤◌, ◌≡◌, ◌⊎◌, Bool, List, filter, length, slice_index_or}
+use Rattle.std.specs.Prelude.{ℕ, ◌+◌, ◌/◌, ◌<◌, ◌≤◌, ◌≡◌, ◌⊎◌, List, length, slice_index_or}
 use Rattle.bucket_slots.specs.ArrayView.{bucket_at}
 use Rattle.bucket_slots.specs.BucketLaws.{IsBucketOf}
-use Rattle.bucket_slots.specs.BucketView.{BucketView, marks_in, pairs_in}
+use Rattle.bucket_slots.specs.BucketView.{BucketView, pairs_in}
 use Rattle.bucket_slots.specs.Homes.{IsHome}
 use Rattle.bucket_slots.specs.Sizing.{IsLength}
 use Rattle.bucket_table.specs.Rehash.Relocation.{home_of, homed_len}
@@ -30,18 +30,18 @@ LacksBucket hash_of key map = ((map.slots ≡ 0) ⊎ (map.slots < map.old_slots)
 unfoldable pub LacksRoom : {K V H : Type 0} → (H → K → ℕ) → K → MapView K V H → Type 0
 LacksRoom hash_of key map = LacksBucket hash_of key map ⊎ HasAtHome 32 (hash_of map.hasher) key map.slots map.entries
 
--- in an array of an index, the pairs in the bucket of a hash and the tombstones there that are kept are 32 at least
-pub record IsFull {K V : Type 0} (keeps : ℕ → Bool) (hash : ℕ) (buckets : List (BucketView K V)) : Type 0 where
+-- in an array, the bucket of a hash has 32 pairs at least
+pub record IsFull {K V : Type 0} (hash : ℕ) (buckets : List (BucketView K V)) : Type 0 where
   pub index : ℕ
   pub home : IsHome (length buckets) hash index
-  pub many : 32 ≤ length (pairs_in (bucket_at buckets index)) + length (filter (λ mark. keeps mark.1) (marks_in (bucket_at buckets index)))
+  pub many : 32 ≤ length (pairs_in (bucket_at buckets index))
 
 -- inserting a key into an index may fail to allocate: finding a bucket may, or the one found is full, in an array as long as the current
 -- one was; a caller that needs this definition unfolds it
-unfoldable pub LacksSlots : {K V H : Type 0} → (ℕ → Bool) → (H → K → ℕ) → K → TableView K V H → TableView K V H → Type 0
-LacksSlots keeps hash_of key old new = LacksBucket hash_of key (map_of old)
+unfoldable pub LacksSlots : {K V H : Type 0} → (H → K → ℕ) → K → TableView K V H → TableView K V H → Type 0
+LacksSlots hash_of key old new = LacksBucket hash_of key (map_of old)
     ⊎ ((side : Side) × (length (buckets_on new.arrays side) ≡ length old.arrays.current)
-    × IsFull keeps (hash_of old.hasher key) (buckets_on new.arrays side))
+    × IsFull (hash_of old.hasher key) (buckets_on new.arrays side))
 
 -- what the home of a hash keeps, a bucket of an array. No public clause cites it
 pub record KeepsHome {K V : Type 0} (kind hash : ℕ) (buckets : List (BucketView K V)) : Type 0 where

@@ -1,6 +1,6 @@
 -- What calls do to the tombstones of an index.
 use Rattle.std.specs.Prelude.{ℕ, ◌≡◌, ◌⊎◌, ◌++◌, Bool, true, false, List, [], ◌∷◌, length}
-use Rattle.std.specs.List.{Contains, filter}
+use Rattle.std.specs.List.{Contains}
 use Rattle.std.specs.List.Sorted.{IsPermutation}
 use Rattle.bucket_slots.specs.Marking.{HasNoNewMark}
 use Rattle.bucket_table.specs.Map.LookingUp.{IsThere}
@@ -13,13 +13,13 @@ pub record AreEarlierMarks {K V : Type 0} (old : ArraysView K V) (marks : List (
   pub current : (mark : (K × V) × ℕ) → Contains (marks_among old.current) mark → Contains marks mark
   pub all : length old.linked ≡ 0 → marks ≡ marks_of old
 
--- the pair whose key is wanted is a tombstone with the epoch, beside earlier tombstones
-pub record AddsMark {K V : Type 0} (wants : K → Bool) (epoch : ℕ) (old new : ArraysView K V) : Type 0 where
+-- the pair whose key is wanted is a tombstone of epoch 0, beside earlier tombstones
+pub record AddsMark {K V : Type 0} (wants : K → Bool) (old new : ArraysView K V) : Type 0 where
   pub pair : K × V
   pub there : IsThere wants (pairs_of old) pair
   pub earlier : List ((K × V) × ℕ)
   pub kept : AreEarlierMarks old earlier
-  pub marks : IsPermutation ((pair, epoch) ∷ earlier) (marks_of new)
+  pub marks : IsPermutation ((pair, 0) ∷ earlier) (marks_of new)
 
 -- no array is left, if the minimum is 0
 abbrev pub LeavesNoArray : {K V : Type 0} → ArraysView K V → Type 0
@@ -29,14 +29,7 @@ LeavesNoArray arrays = (arrays.minimum ≡ 0) × (arrays.current ++ arrays.linke
 abbrev pub KeepsMarks : {K V : Type 0} → ArraysView K V → ArraysView K V → Type 0
 KeepsMarks old new = (marks_of new ≡ marks_of old) ⊎ LeavesNoArray new
 
-module _ {K V : Type 0} where
-  -- a pair that is removed becomes a tombstone, or no array is left; if none is removed, the tombstones are earlier ones
-  abbrev pub MarksRemoved : (K → Bool) → ℕ → Bool → ArraysView K V → ArraysView K V → Type 0
-  MarksRemoved wants epoch true old new =
-      AddsMark wants epoch old new ⊎ LeavesNoArray new
-  MarksRemoved wants epoch false old new = AreEarlierMarks old (marks_of new)
-
-  -- no tombstone of the current array is dropped whose epoch the generation keeps, and if there is no old array these are the same
-  pub record LosesNoKeptMark (keeps : ℕ → Bool) (old new : ArraysView K V) : Type 0 where
-    pub current : (mark : (K × V) × ℕ) → Contains (marks_among old.current) mark → keeps mark.1 ≡ true → Contains (marks_of new) mark
-    pub alone : length old.linked ≡ 0 → filter (λ mark. keeps mark.1) (marks_of new) ≡ filter (λ mark. keeps mark.1) (marks_of old)
+-- a pair that is removed becomes a tombstone, or no array is left; if none is removed, the tombstones are earlier ones
+abbrev pub MarksRemoved : {K V : Type 0} → (K → Bool) → Bool → ArraysView K V → ArraysView K V → Type 0
+MarksRemoved wants true old new = AddsMark wants old new ⊎ LeavesNoArray new
+MarksRemoved wants false old new = AreEarlierMarks old (marks_of new)

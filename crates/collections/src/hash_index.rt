@@ -1,15 +1,15 @@
-//! A map whose reads move nothing, and whose removed pairs stay in their slots as tombstones. A
-//! tombstone has the epoch of its removal, and is dropped by an insertion whose generation no
-//! longer keeps that epoch.
+//! A map whose reads move nothing, and whose removed pairs stay in their slots as tombstones until
+//! an insertion needs room in their bucket.
 //!
 //! Model: the table's own view, since tombstones are no part of a map. The map is `map_of` it, and
 //! answers as std's `HashMap` does; its tombstones, which no look-up, walk or count sees, are
-//! `marks_of` its arrays. Only a removal leaves a tombstone, with the epoch of the generation that
-//! it is given. It is dropped by an insertion whose generation doesn't keep it, with all arrays if
-//! the minimum is 0, or with the old array, by a call that moves pairs out of it.
+//! `marks_of` its arrays. Only a removal leaves a tombstone, with epoch 0. An insertion drops those
+//! of its bucket if no own slot there is free and one has a tombstone; while all own slots have
+//! pairs, those of the chain stay. Else a tombstone is dropped with all arrays, if the minimum is 0,
+//! or with the old array, by a call that moves pairs out of it.
 //!
-//! Ports scc's `src/hash_index.rs` to an owned index: the caller passes a generation where scc asks
-//! its collector.
+//! Ports scc's `src/hash_index.rs` to an owned index: where scc asks its collector whether a reader
+//! may still see a removed pair, here none can.
 ghost use Rattle.std.specs.Prelude.{◌≡◌, ◌<◌, ◌↔◌, ◌-◌, ◌*◌, ◌^◌, [], Err, IfSome, IsTrue};
 ghost use Rattle.std.specs.Prelude.{is_some, length, min};
 ghost use Rattle.std.specs.Option.{option_copied, option_map};
@@ -24,25 +24,27 @@ ghost use Rattle.collections.specs.Changes.{Inserts, ReadsOut, Reserves, Stays, 
 ghost use Rattle.collections.specs.Crowding.{LacksSlots};
 ghost use Rattle.collections.specs.Maps.{contains_by, get_by, IsEmpty, map_len, map_of};
 ghost use Rattle.collections.specs.Maps.{pairs_in_bucket};
-ghost use Rattle.collections.specs.Marks.{KeepsMarks, LosesNoKeptMark, MarksRemoved};
+ghost use Rattle.collections.specs.Marks.{KeepsMarks, MarksRemoved};
 ghost use Rattle.collections.specs.Slots.{GrowsSlots, LosesSlots};
 ghost use Rattle.collections.specs.StoredKeys.{key_by};
 
 mod cloning;
 mod comparing;
 mod emptied;
+mod generation;
 mod iterating;
 mod printing;
 mod removing;
 mod retaining;
 
 use crate::default_hash::DefaultHash;
+use crate::hash_index::generation::NoneKept;
 use crate::hash_map::NotInserted;
 use crate::homes::learn_refused;
 use crate::key_form::{FormProbe, KeyForm, pair_by, value_by};
 use crate::room::{Fits, TableRoom};
 use crate::sizing::widest;
-use bucket_slots::bucket::{Generation, INDEX};
+use bucket_slots::bucket::INDEX;
 use bucket_table::hash_table::{HashTable, MAXIMUM_CAPACITY_LIMIT};
 use bucket_table::key_hash::{KeyHash, StdHash};
 pub use iterating::{Iter, Keys, Values};
@@ -50,7 +52,7 @@ use std::alloc::Global;
 use std::hash::{BuildHasherDefault, Hash, RandomState};
 use std::marker::Model;
 
-/// A map whose removed pairs stay as tombstones until their epoch ends. scc: `HashIndex`.
+/// A map whose removed pairs stay as tombstones until their bucket needs room. scc: `HashIndex`.
 ///
 /// Incremental rehash and allocation failure are as in `HashMap`: while there is an old array, an
 /// insertion or a removal first moves a unit of 64 old buckets, and the old buckets whose pairs
@@ -218,55 +220,43 @@ impl<K: Eq, V, H: KeyHash<K>> HashIndex<K, V, H> {
 
 impl<K: Eq + Drop, V: Drop, H: KeyHash<K>> HashIndex<K, V, H> {
     /// Inserts a pair whose key the index hasn't. If no own slot of its home is free and one has a
-    /// tombstone, it first drops each tombstone there whose epoch the generation doesn't keep.
-    ///
-    /// `HashTable::insert_pair` says which tombstones those are.
+    /// tombstone, it first drops all tombstones there.
     ///
     /// # Errors
     ///
     /// The index has an equal key; or allocation failed, and it has none. The pair is returned.
-    /// Allocation can't fail while the index has slots, no fewer than old slots, the pairs in the
-    /// key's bucket and the tombstones there that the generation keeps are fewer than 32, and its
-    /// bucket among the old slots, if any, is the home of at most 32 pairs.
+    /// Allocation can't fail while the index has slots, no fewer than old slots, the key's bucket
+    /// has fewer than 32 pairs, and its bucket among the old slots, if any, at most 32.
     ///
     /// O(1) expected, plus any resize. scc: `HashIndex::insert_sync`.
     #[inline(always)]
-    pub fn insert<G: Generation>(
-        &mut self,
-        key: K,
-        value: V,
-        generation: &G,
-    ) -> Result<(), NotInserted<K, V>>
+    pub fn insert(&mut self, key: K, value: V) -> Result<(), NotInserted<K, V>>
         ensures map { Inserts K.eq key value (map_of self.old) result (map_of self.new) }
         ensures marks { HasNoNewMark (marks_of self.old.arrays) (marks_of self.new.arrays) }
-        ensures kept { LosesNoKeptMark (G.keeps generation.now) self.old.arrays self.new.arrays }
         ensures slots { GrowsSlots H.hash_of key (map_of self.old) (map_of self.new) }
         ensures memory { result ≡ Err (Memory key value)
-            → LacksSlots (G.keeps generation.now) H.hash_of key self.old self.new }
+            → LacksSlots H.hash_of key self.old self.new }
     {
         self.room.learn();
         self.table.sound();
-        let outcome = self.table.insert_growing(key, value, generation);
+        let outcome = self.table.insert_growing(key, value, &NoneKept);
         learn_refused(&self.table, &outcome);
         self.table.sound();
         outcome
     }
 
     /// Removes the pair under a key, or under the keys that a form stands for, and leaves a
-    /// tombstone with the generation's epoch. The pair is no longer in the index. Returns whether
-    /// there was one.
+    /// tombstone. The pair is no longer in the index. Returns whether there was one.
     ///
     /// Never fails. O(1) expected, plus any resize. scc: `HashIndex::remove_sync`.
     #[inline(always)]
-    pub fn remove<Q: KeyForm<K, H>, G: Generation>(&mut self, key: Q, generation: &G) -> bool
+    pub fn remove<Q: KeyForm<K, H>>(&mut self, key: Q) -> bool
         ensures map { TakesOut K.eq (Q.stands_for key) (map_of self.old) result (map_of self.new) }
-        ensures marks { MarksBy (G.epoch_of generation.now) (marks_of self.old.arrays)
-            (marks_of self.new.arrays) }
-        ensures marked { MarksRemoved (Q.stands_for key) (G.epoch_of generation.now) result
-            self.old.arrays self.new.arrays }
+        ensures marks { MarksBy 0 (marks_of self.old.arrays) (marks_of self.new.arrays) }
+        ensures marked { MarksRemoved (Q.stands_for key) result self.old.arrays self.new.arrays }
         ensures slots { LosesSlots result (map_of self.old) (map_of self.new) }
     {
-        let removed = self.remove_with(key, generation, |_own: &K, _value: &V| ());
+        let removed = self.remove_with(key, |_own: &K, _value: &V| ());
         removed.is_some()
     }
 
@@ -276,10 +266,9 @@ impl<K: Eq + Drop, V: Drop, H: KeyHash<K>> HashIndex<K, V, H> {
     ///
     /// Never fails. O(1) expected, plus any resize. Own.
     #[inline(always)]
-    pub fn remove_with<Q: KeyForm<K, H>, R, F: FnOnce(&K, &V) -> R, G: Generation>(
+    pub fn remove_with<Q: KeyForm<K, H>, R, F: FnOnce(&K, &V) -> R>(
         &mut self,
         key: Q,
-        generation: &G,
         reader: F,
     ) -> Option<R>
         requires callable { (own : Bor K) (value : Bor V)
@@ -288,10 +277,9 @@ impl<K: Eq + Drop, V: Drop, H: KeyHash<K>> HashIndex<K, V, H> {
         ensures map { ReadsOut K.eq (Q.stands_for key)
             (λ own value answer. F.post reader own value answer) (map_of self.old) result
             (map_of self.new) }
-        ensures marks { MarksBy (G.epoch_of generation.now) (marks_of self.old.arrays)
-            (marks_of self.new.arrays) }
-        ensures marked { MarksRemoved (Q.stands_for key) (G.epoch_of generation.now)
-            (is_some result) self.old.arrays self.new.arrays }
+        ensures marks { MarksBy 0 (marks_of self.old.arrays) (marks_of self.new.arrays) }
+        ensures marked { MarksRemoved (Q.stands_for key) (is_some result) self.old.arrays
+            self.new.arrays }
         ensures slots { LosesSlots (is_some result) (map_of self.old) (map_of self.new) }
     {
         self.room.learn();
@@ -299,7 +287,7 @@ impl<K: Eq + Drop, V: Drop, H: KeyHash<K>> HashIndex<K, V, H> {
         let hash = key.hash_by(self.table.hasher());
         let outcome = self
             .table
-            .mark_by(hash, &mut FormProbe::<Q, H>::new(key), generation, reader);
+            .mark_by(hash, &mut FormProbe::<Q, H>::new(key), &NoneKept, reader);
         self.table.sound();
         outcome
     }

@@ -1,5 +1,5 @@
 //! Collections over one bucketed hash table: a map, a set, an index whose removed pairs stay as
-//! tombstones until their epoch ends, and a cache that evicts.
+//! tombstones until their bucket needs room, and a cache that evicts.
 //!
 //! A user sees keys, values and allocation failures; no array, no rehash. `CALLING.md` has the call
 //! for each of std's, and `PROVING.md` the contracts.

@@ -1,6 +1,6 @@
 //! The four collections, and the calls that they share.
 use Collection::{Cache, Index, Map, Set};
-use bucket_table::script::{FixedGeneration, ScriptHash};
+use bucket_table::script::ScriptHash;
 use collections::hash_cache::HashCache;
 use collections::hash_index::HashIndex;
 use collections::hash_map::{HashMap, NotInserted};
@@ -12,9 +12,7 @@ use std::alloc::{AllocError, Global};
 pub(crate) enum Collection {
     Map(HashMap<u64, u64, ScriptHash>),
     Set(HashSet<u64, ScriptHash>),
-    /// An index, and its generation: each removal has the next epoch, and tombstones are kept in
-    /// every second one.
-    Index(HashIndex<u64, u64, ScriptHash>, FixedGeneration),
+    Index(HashIndex<u64, u64, ScriptHash>),
     /// A cache of at most 128 slots.
     Cache(HashCache<u64, u64, ScriptHash>),
 }
@@ -25,7 +23,7 @@ macro_rules! on_each {
         match $collection {
             Map($any) => $call,
             Set($any) => $call,
-            Index($any, _) => $call,
+            Index($any) => $call,
             Cache($cache) => $of_cache,
         }
     };
@@ -34,15 +32,11 @@ macro_rules! on_each {
 impl Collection {
     /// One of each with its name, and no pair.
     pub(crate) fn all(alloc: Global, hasher: ScriptHash) -> [(&'static str, Self); 4] {
-        let first = FixedGeneration {
-            epoch: 0,
-            keep: true,
-        };
         let cache = HashCache::with_capacity(alloc, hasher, 0, 128);
         [
             ("map", Map(HashMap::with_hasher(alloc, hasher))),
             ("set", Set(HashSet::with_hasher(alloc, hasher))),
-            ("index", Index(HashIndex::with_hasher(alloc, hasher), first)),
+            ("index", Index(HashIndex::with_hasher(alloc, hasher))),
             ("cache", Cache(cache)),
         ]
     }
@@ -60,7 +54,7 @@ impl Collection {
                 Err(NotInserted::Present(own, _)) => return Err(NotInserted::Present(own, 0)),
                 Err(NotInserted::Memory(own, _)) => return Err(NotInserted::Memory(own, 0)),
             },
-            Index(index, generation) => index.insert(key, value, generation)?,
+            Index(index) => index.insert(key, value)?,
             Cache(cache) => return cache.put(key, value),
         }
         Ok(None)
@@ -71,11 +65,7 @@ impl Collection {
         match self {
             Map(map) => map.remove(&key),
             Set(set) => set.take(&key).map(|own| (own, 0)),
-            Index(index, generation) => {
-                generation.epoch = generation.epoch.wrapping_add(1);
-                generation.keep = !generation.keep;
-                index.remove_with(&key, generation, |own: &u64, value: &u64| (*own, *value))
-            }
+            Index(index) => index.remove_with(&key, |own: &u64, value: &u64| (*own, *value)),
             Cache(cache) => cache.remove(&key),
         }
     }
@@ -85,7 +75,7 @@ impl Collection {
         match self {
             Map(map) => map.get(&key).copied(),
             Set(set) => set.contains(&key).then_some(0),
-            Index(index, _) => index.peek(&key).copied(),
+            Index(index) => index.peek(&key).copied(),
             Cache(cache) => cache.peek(&key).copied(),
         }
     }
@@ -97,7 +87,7 @@ impl Collection {
         match self {
             Map(map) => map.for_each(&mut meet),
             Set(set) => set.for_each(&mut |key: &u64| meet(key, &0)),
-            Index(index, _) => index.for_each(&mut meet),
+            Index(index) => index.for_each(&mut meet),
             Cache(cache) => cache.for_each(&mut meet),
         }
         (came, on_each!(self, any => any.len(), cache => cache.len()))
@@ -129,7 +119,7 @@ impl Collection {
         match self {
             Map(map) => map.shrink_to_fit().is_err() || (map.capacity() == 0) == map.is_empty(),
             Set(set) => set.shrink_to_fit().is_err() || (set.capacity() == 0) == set.is_empty(),
-            Index(index, _) => {
+            Index(index) => {
                 index.shrink_to_fit();
                 true
             }

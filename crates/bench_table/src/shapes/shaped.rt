@@ -1,5 +1,4 @@
 //! What the four collections have in common: numbers under the default hash, each its own value.
-use bucket_table::script::FixedGeneration;
 use collections::DefaultHash;
 use collections::hash_cache::HashCache;
 use collections::hash_index::HashIndex;
@@ -52,13 +51,7 @@ pub(crate) type Index = HashIndex<u64, u64>;
 /// A cache.
 pub(crate) type Cache = HashCache<u64, u64>;
 
-/// An index keeps no tombstone.
-const NOW: FixedGeneration = FixedGeneration {
-    epoch: 0,
-    keep: false,
-};
-
-/// The most slots of a cache: at least four for each pair that comes.
+//// The most slots of a cache: at least four for each pair that comes.
 const MOST_SLOTS: usize = 1 << 21;
 
 impl Shaped for Map {
@@ -156,7 +149,7 @@ impl Shaped for Index {
 
     #[inline(always)]
     fn put(&mut self, key: u64) {
-        let _ = self.insert(key, key, &NOW);
+        let _ = self.insert(key, key);
     }
 
     #[inline(always)]
@@ -166,7 +159,7 @@ impl Shaped for Index {
 
     #[inline(always)]
     fn take(&mut self, key: u64) {
-        let _ = self.remove(&key, &NOW);
+        let _ = self.remove(&key);
     }
 
     #[inline(always)]
@@ -176,7 +169,7 @@ impl Shaped for Index {
 
     fn halve(&mut self) {
         let mut keep = |key: &u64, _value: &u64| -> bool { *key % 2 == 0 };
-        self.retain(&mut keep, &NOW);
+        self.retain(&mut keep);
     }
 
     fn count(&self) -> usize {
@@ -189,7 +182,7 @@ impl Shaped for Index {
 
     fn pour(&self, to: &mut Index) {
         for (key, value) in self {
-            let _ = to.insert(*key, *value, &NOW);
+            let _ = to.insert(*key, *value);
         }
     }
 }

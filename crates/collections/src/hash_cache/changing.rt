@@ -99,7 +99,7 @@ impl<K: Eq + Drop, V: Drop, H: KeyHash<K>> HashCache<K, V, H> {
         ensures retained { Retains K.eq
             (λ state own before answer after last. F.step state own before answer after last)
             f.old (map_of self.old) (map_of self.new) f.new }
-        ensures buckets { LeavesBuckets CACHE 0 self.old.arrays self.new.arrays }
+        ensures buckets { LeavesBuckets CACHE self.old.arrays self.new.arrays }
     {
         self.room.learn();
         let _ = self.table.retain(f, &());
@@ -117,7 +117,7 @@ impl<K: Eq + Drop, V: Drop, H: KeyHash<K>> HashCache<K, V, H> {
         ensures written { Retains K.eq (λ state own before answer after last. (answer ≡ true)
             × F.step state own before tt after last) f.old (map_of self.old) (map_of self.new)
             f.new }
-        ensures buckets { LeavesBuckets CACHE 0 self.old.arrays self.new.arrays }
+        ensures buckets { LeavesBuckets CACHE self.old.arrays self.new.arrays }
     {
         let mut keep = |key: &K, value: &mut V|
             requires { F.IsAlwaysCallable f.now }

@@ -65,7 +65,7 @@ impl<K: Eq + Clone, V: Clone, H: KeyHash<K>> HashIndex<K, V, H> {
             return Err(AllocError);
         }
         let held = value.clone()?;
-        let Ok(_added) = self.insert(own, held, &()) else {
+        let Ok(_added) = self.insert(own, held) else {
             return Err(AllocError);
         };
         Ok(())

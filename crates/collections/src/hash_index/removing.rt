@@ -12,7 +12,6 @@ ghost use Rattle.collections.specs.Slots.{LosesSlots};
 
 use crate::hash_index::HashIndex;
 use crate::key_form::{KeyForm, asks};
-use bucket_slots::bucket::Generation;
 use bucket_table::key_hash::KeyHash;
 
 impl<K: Eq + Drop, V: Drop, H: KeyHash<K>> HashIndex<K, V, H> {
@@ -21,11 +20,10 @@ impl<K: Eq + Drop, V: Drop, H: KeyHash<K>> HashIndex<K, V, H> {
     /// `false`, or if the index hasn't the key and the function isn't called, nothing changes.
     ///
     /// Never fails. O(1) expected, plus any resize. scc: `HashIndex::remove_if_sync`.
-    pub fn remove_if<Q: KeyForm<K, H>, F: FnOnce(&K, &V) -> bool, G: Generation>(
+    pub fn remove_if<Q: KeyForm<K, H>, F: FnOnce(&K, &V) -> bool>(
         &mut self,
         key: Q,
         condition: F,
-        generation: &G,
     ) -> bool
         requires callable { (own : Bor K) (value : Bor V)
             → IsThere (Q.stands_for key) (pairs_of self.old.arrays) (own.now, value.now)
@@ -34,15 +32,13 @@ impl<K: Eq + Drop, V: Drop, H: KeyHash<K>> HashIndex<K, V, H> {
             (λ own value answer. F.post condition own value answer) (map_of self.old) result
             (map_of self.new) }
         ensures unchanged { OnFalse result (self.new ≡ self.old) }
-        ensures marks { MarksBy (G.epoch_of generation.now) (marks_of self.old.arrays)
-            (marks_of self.new.arrays) }
-        ensures marked { MarksRemoved (Q.stands_for key) (G.epoch_of generation.now) result
-            self.old.arrays self.new.arrays }
+        ensures marks { MarksBy 0 (marks_of self.old.arrays) (marks_of self.new.arrays) }
+        ensures marked { MarksRemoved (Q.stands_for key) result self.old.arrays self.new.arrays }
         ensures slots { LosesSlots result (map_of self.old) (map_of self.new) }
     {
         self.room.learn();
         if asks(&self.table, key, condition) {
-            self.remove(key, generation)
+            self.remove(key)
         } else {
             false
         }

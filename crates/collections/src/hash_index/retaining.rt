@@ -9,26 +9,25 @@ ghost use Rattle.collections.specs.Retaining.{LeavesBuckets};
 
 use crate::calling::learn_asks;
 use crate::hash_index::HashIndex;
-use bucket_slots::bucket::{Generation, INDEX};
+use crate::hash_index::generation::NoneKept;
+use bucket_slots::bucket::INDEX;
 use bucket_table::key_hash::KeyHash;
 
 impl<K: Eq + Drop, V: Drop, H: KeyHash<K>> HashIndex<K, V, H> {
     /// Calls a function with each pair once, and removes each pair for which it returns `false`. A
-    /// removed pair leaves a tombstone with the generation's epoch, and earlier tombstones stay.
+    /// removed pair leaves a tombstone, and earlier tombstones stay.
     ///
     /// Never fails, and takes no memory. O(slots), and the function's calls. scc:
     /// `HashIndex::retain_sync`.
-    pub fn retain<F: FnMut(&K, &V) -> bool, G: Generation>(&mut self, f: &mut F, generation: &G)
+    pub fn retain<F: FnMut(&K, &V) -> bool>(&mut self, f: &mut F)
         requires callable { F.IsAlwaysCallable f.old }
         ensures again { F.IsAlwaysCallable f.new }
         ensures retained { Retains K.eq
             (λ state own before answer after last. (after.now ≡ before.now)
             × ((value : Bor V) × (value.now ≡ before.now) × F.step state own value answer last))
             f.old (map_of self.old) (map_of self.new) f.new }
-        ensures marks { MarksBy (G.epoch_of generation.now) (marks_of self.old.arrays)
-            (marks_of self.new.arrays) }
-        ensures buckets { LeavesBuckets INDEX (G.epoch_of generation.now) self.old.arrays
-            self.new.arrays }
+        ensures marks { MarksBy 0 (marks_of self.old.arrays) (marks_of self.new.arrays) }
+        ensures buckets { LeavesBuckets INDEX self.old.arrays self.new.arrays }
     {
         let mut keep = |key: &K, value: &mut V|
             requires { F.IsAlwaysCallable f.now }
@@ -36,23 +35,21 @@ impl<K: Eq + Drop, V: Drop, H: KeyHash<K>> HashIndex<K, V, H> {
                 × F.step f.entry.now key.entry lent result f.exit.now) }
         { f(key, &*value) };
         learn_asks(&keep);
-        self.retain_mut(&mut keep, generation);
+        self.retain_mut(&mut keep);
     }
 
     /// As `retain`, with a function that may write the values.
-    fn retain_mut<F: FnMut(&K, &mut V) -> bool, G: Generation>(&mut self, f: &mut F, generation: &G)
+    fn retain_mut<F: FnMut(&K, &mut V) -> bool>(&mut self, f: &mut F)
         requires callable { F.IsAlwaysCallable f.old }
         ensures again { F.IsAlwaysCallable f.new }
         ensures retained { Retains K.eq
             (λ state own before answer after last. F.step state own before answer after last)
             f.old (map_of self.old) (map_of self.new) f.new }
-        ensures marks { MarksBy (G.epoch_of generation.now) (marks_of self.old.arrays)
-            (marks_of self.new.arrays) }
-        ensures buckets { LeavesBuckets INDEX (G.epoch_of generation.now) self.old.arrays
-            self.new.arrays }
+        ensures marks { MarksBy 0 (marks_of self.old.arrays) (marks_of self.new.arrays) }
+        ensures buckets { LeavesBuckets INDEX self.old.arrays self.new.arrays }
     {
         self.room.learn();
-        let _ = self.table.retain(f, generation);
+        let _ = self.table.retain(f, &NoneKept);
         self.table.sound();
     }
 }

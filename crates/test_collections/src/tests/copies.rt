@@ -53,14 +53,14 @@ fn a_change_of_an_index_leaves_its_copy(rt: HostRuntime) -> Result<(), Fail> {
 // Inserts 40 keys.
 fn fill_index(rt: &impl Abort, index: &mut Index) {
     for key in 0..40 {
-        check_same(rt, index.insert(key, key, &()).is_ok(), true, "inserted");
+        check_same(rt, index.insert(key, key).is_ok(), true, "inserted");
     }
 }
 
 // An index and its copy are changed apart.
 fn change_index(rt: &impl Abort, index: &mut Index, copy: &mut Index) {
     check_same(rt, (copy.len(), copy.capacity()), (40, 128), "copied");
-    let went = (index.remove(&7, &()), copy.remove(&8, &()));
+    let went = (index.remove(&7), copy.remove(&8));
     check_same(rt, went, (true, true), "removed");
     let found = (index.contains(&7), index.contains(&8));
     check_same(rt, found, (false, true), "index");

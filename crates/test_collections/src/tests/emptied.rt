@@ -40,7 +40,7 @@ fn take_set(set: &mut HashSet<u64>) -> Left {
 }
 
 fn take_index(index: &mut HashIndex<u64, u64>) -> Left {
-    if index.insert(1, 10, &()).is_err() {
+    if index.insert(1, 10).is_err() {
         return Err(AllocError);
     }
     let taken = mem::try_take(index)?;
@@ -117,7 +117,7 @@ fn index(
     number: u64,
 ) -> Result<usize, AllocError> {
     let index = indexes.entry(1).or_default()?;
-    if index.insert(number, 0, &()).is_err() {
+    if index.insert(number, 0).is_err() {
         return Err(AllocError);
     }
     Ok(index.len())

@@ -5,7 +5,7 @@ use super::indexes::Index;
 use super::maps::Map;
 use super::sets::Set;
 use super::{check_same, steps};
-use bucket_table::script::{FixedGeneration, ScriptHash};
+use bucket_table::script::ScriptHash;
 use collections::hash_cache::HashCache;
 use collections::hash_index::HashIndex;
 use collections::hash_map::HashMap;
@@ -52,7 +52,7 @@ fn equal_are_indexes_of_the_same_pairs(rt: HostRuntime) -> Result<(), Fail> {
     for (number, row) in ROWS.iter().enumerate() {
         let mut one = index_of(rt.alloc(), ScriptHash::Id, row.0);
         let other = index_of(rt.alloc(), ScriptHash::Zero, row.1);
-        let went = one.insert(GONE, 0, &NOW).is_ok() && one.remove(&GONE, &NOW);
+        let went = one.insert(GONE, 0).is_ok() && one.remove(&GONE);
         check_same(&rt, went, true, number);
         check_equal(&rt, &one, &other, row.2, ("indexes", number));
     }
@@ -115,17 +115,11 @@ fn keys_of(alloc: Global, hasher: ScriptHash, pairs: Pairs) -> Set {
     set
 }
 
-// The epoch of tombstones, all of which are kept.
-const NOW: FixedGeneration = FixedGeneration {
-    epoch: 1,
-    keep: true,
-};
-
 // An index of pairs with distinct keys.
 fn index_of(alloc: Global, hasher: ScriptHash, pairs: Pairs) -> Index {
     let mut index = HashIndex::with_hasher(alloc, hasher);
     for (key, value) in pairs {
-        let _ = index.insert(*key, *value, &NOW);
+        let _ = index.insert(*key, *value);
     }
     index
 }

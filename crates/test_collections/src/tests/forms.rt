@@ -112,7 +112,7 @@ pub(super) fn owned(alloc: Global, text: &str) -> String {
 pub(super) fn put(alloc: Global, words: &mut Words, word: &str, number: u64) -> bool {
     words.map.insert(owned(alloc, word), number).is_ok()
         && words.set.insert_new(owned(alloc, word)).is_ok()
-        && words.index.insert(owned(alloc, word), number, &()).is_ok()
+        && words.index.insert(owned(alloc, word), number).is_ok()
         && words.cache.put(owned(alloc, word), number).is_ok()
 }
 
@@ -143,7 +143,7 @@ fn write_both(words: &mut Words, word: &str, later: u64) -> (Option<u64>, Option
 
 // Removes a word from the set, the index and the cache.
 fn remove_elsewhere(rt: &impl Abort, words: &mut Words, at: At, word: &str, number: Option<u64>) {
-    let there = (words.set.remove(word), words.index.remove(word, &()));
+    let there = (words.set.remove(word), words.index.remove(word));
     let wanted = (number.is_some(), number.is_some());
     check_same(rt, there, wanted, (at, "set, index"));
     check_same(

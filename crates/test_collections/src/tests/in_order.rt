@@ -2,7 +2,7 @@
 //! They all go to the first buckets, where no sample of a resize looks, and yet the slots grow with
 //! the keys, and no bucket is left with many of them.
 use super::check_same;
-use bucket_table::script::{FixedGeneration, ScriptHash};
+use bucket_table::script::ScriptHash;
 use collections::DefaultHash;
 use collections::hash_cache::HashCache;
 use collections::hash_index::HashIndex;
@@ -17,11 +17,6 @@ const KEYS: usize = 20000;
 
 // The most keys that a bucket has when all have come: its 32 slots, and as many again.
 const MOST: usize = 64;
-
-const NOW: FixedGeneration = FixedGeneration {
-    epoch: 0,
-    keep: false,
-};
 
 // Checks how many keys and slots there are, and how many keys the fullest bucket has.
 fn check_shape(rt: &impl Abort, keys: usize, slots: usize, fullest: usize, row: &'static str) {
@@ -139,7 +134,7 @@ fn an_index_grows_with_the_pairs_of_a_map(rt: HostRuntime) -> Result<(), Fail> {
     let from = filled(rt.alloc());
     let mut to: HashIndex<u64, u64> = HashIndex::new(rt.alloc());
     for (key, value) in &from {
-        let _ = to.insert(*key, *value, &NOW);
+        let _ = to.insert(*key, *value);
     }
     check_shape(&rt, to.len(), to.capacity(), fullest_of_index(&to), "index");
     Ok(())

@@ -2,7 +2,7 @@
 use super::iterating::{MOST_BUCKETS, Pairs, gone_over, same_pairs, walk_numbers, walk_pairs};
 use super::{At, check_same, pair_with, steps};
 use Step::*;
-use bucket_table::script::{FixedGeneration, ScriptHash};
+use bucket_table::script::ScriptHash;
 use collections::hash_index::HashIndex;
 use collections::hash_map::NotInserted;
 use std::alloc::Global;
@@ -44,7 +44,7 @@ enum Step {
     Slots(usize),
 }
 
-/// What happens on a new index, under an epoch whose tombstones are kept or not.
+/// What happens on a new index.
 struct Story {
     name: &'static str,
     hasher: ScriptHash,
@@ -122,63 +122,46 @@ const STORIES: &[Story] = steps! {
             Removes(6, false), Clears, Inserts(5, 6), Slots(128), Len(1), Holds(5, Some(6)) } }
 };
 
-// The results are the same whether tombstones are kept or not.
 #[test]
 fn indexes_go_through_their_stories(rt: HostRuntime) -> Result<(), Fail> {
-    for (number, story) in STORIES.iter().enumerate() {
-        for keep in [true, false] {
-            let now = FixedGeneration {
-                epoch: (number % 256) as u8,
-                keep,
-            };
-            play(&rt, rt.alloc(), &now, story);
-        }
+    for story in STORIES {
+        play(&rt, rt.alloc(), story);
     }
     Ok(())
 }
 
 // Takes the steps of a story on a new index.
-fn play(rt: &impl Abort, alloc: Global, now: &FixedGeneration, story: &Story) {
+fn play(rt: &impl Abort, alloc: Global, story: &Story) {
     let mut index: Index = HashIndex::with_minimum(alloc, story.hasher, story.capacity);
     for (row, step) in story.steps.iter().enumerate() {
-        take(rt, &mut index, now, (story.name, row), step);
+        take(rt, &mut index, (story.name, row), step);
         check_same(rt, *index.hasher(), story.hasher, (story.name, row));
     }
 }
 
 // Takes a step that inserts or removes pairs, and compares its result.
-fn take(rt: &impl Abort, index: &mut Index, now: &FixedGeneration, at: At, step: &Step) {
+fn take(rt: &impl Abort, index: &mut Index, at: At, step: &Step) {
     match *step {
-        Fills(from, to) => check_same(rt, fill(index, from, to, now), true, at),
-        Inserts(key, value) => check_same(rt, insert(index, key, value, now), Ok(()), at),
+        Fills(from, to) => check_same(rt, fill(index, from, to), true, at),
+        Inserts(key, value) => check_same(rt, insert(index, key, value), Ok(()), at),
         Returns(key, value) => {
-            check_same(
-                rt,
-                insert(index, key, value, now),
-                Err(Some((key, value))),
-                at,
-            );
+            check_same(rt, insert(index, key, value), Err(Some((key, value))), at);
         }
-        Removes(key, there) => check_same(rt, index.remove(&key, now), there, at),
-        Reads(key, pair) => check_same(rt, index.remove_with(&key, now, pair_of), pair, at),
+        Removes(key, there) => check_same(rt, index.remove(&key), there, at),
+        Reads(key, pair) => check_same(rt, index.remove_with(&key, pair_of), pair, at),
         RemovesAbove(key, floor, gone) => {
-            check_same(rt, remove_above(index, key, floor, now), gone, at);
+            check_same(rt, remove_above(index, key, floor), gone, at);
         }
-        Drains(from, to) => check_same(rt, drain(index, from, to, now), true, at),
-        Retains => index.retain(&mut is_even, now),
+        Drains(from, to) => check_same(rt, drain(index, from, to), true, at),
+        Retains => index.retain(&mut is_even),
         _ => resize(rt, index, at, step),
     }
 }
 
 // Inserts a pair. Returns the one that is returned because its key is present, or none if
 // allocation fails.
-fn insert(
-    index: &mut Index,
-    key: u64,
-    value: u64,
-    now: &FixedGeneration,
-) -> Result<(), Option<(u64, u64)>> {
-    match index.insert(key, value, now) {
+fn insert(index: &mut Index, key: u64, value: u64) -> Result<(), Option<(u64, u64)>> {
+    match index.insert(key, value) {
         Ok(()) => Ok(()),
         Err(NotInserted::Present(own, back)) => Err(Some((own, back))),
         Err(NotInserted::Memory(_, _)) => Err(None),
@@ -186,24 +169,24 @@ fn insert(
 }
 
 // Inserts keys, each as its own value. Whether all were inserted.
-fn fill(index: &mut Index, from: u64, to: u64, now: &FixedGeneration) -> bool {
+fn fill(index: &mut Index, from: u64, to: u64) -> bool {
     let mut are_in = true;
     for key in from..to {
-        are_in = index.insert(key, key, now).is_ok() && are_in;
+        are_in = index.insert(key, key).is_ok() && are_in;
     }
     are_in
 }
 
 // Removes a pair whose value is above a number. Whether there was one.
-fn remove_above(index: &mut Index, key: u64, floor: u64, now: &FixedGeneration) -> bool {
-    index.remove_if(&key, |_own: &u64, value: &u64| *value > floor, now)
+fn remove_above(index: &mut Index, key: u64, floor: u64) -> bool {
+    index.remove_if(&key, |_own: &u64, value: &u64| *value > floor)
 }
 
 // Removes keys. Whether each was present.
-fn drain(index: &mut Index, from: u64, to: u64, now: &FixedGeneration) -> bool {
+fn drain(index: &mut Index, from: u64, to: u64) -> bool {
     let mut were_there = true;
     for key in from..to {
-        were_there = index.remove(&key, now) && were_there;
+        were_there = index.remove(&key) && were_there;
     }
     were_there
 }

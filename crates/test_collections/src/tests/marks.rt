@@ -1,8 +1,9 @@
-//! Values that are counted, in an index: a removed one stays while its tombstone is kept, and is
-//! dropped once, with its tombstone, when the pairs are cleared, or with its array.
+//! Values that are counted, in an index: a removed one stays in its tombstone, and is dropped once,
+//! by an insertion that needs room, when the pairs are cleared, or with its array. Few wait so.
 use super::{At, check_same, steps};
 use Step::*;
-use bucket_table::script::{FixedGeneration, ScriptHash};
+use bucket_table::script::ScriptHash;
+use collections::KeyHash;
 use collections::hash_index::HashIndex;
 use std::process::Abort;
 use std::rc::Rc;
@@ -10,11 +11,8 @@ use std::test::Fail;
 
 type Index = HashIndex<u64, Rc<u64>, ScriptHash>;
 
-/// A setting for the steps that follow, a call, or what is seen of the index. Of two keys the
-/// second is the first that is not meant.
+/// A call, or what is seen of the index. Of two keys the second is the first that is not meant.
 enum Step {
-    /// The epoch from here on, and whether tombstones are kept. At first it is 0, and they are.
-    Now(u8, bool),
     /// Keys are inserted.
     Fills(u64, u64),
     /// A key is inserted.
@@ -45,46 +43,49 @@ type Story = (&'static str, ScriptHash, &'static [Step]);
 // Under the hash 0 all keys have one bucket, of 32 own slots, and the index keeps its 64.
 const STORIES: &[Story] = steps! {
     // Both tombstones are dropped by one insertion.
-    ("a marked value is dropped when an insertion lets it go", ScriptHash::Zero, steps! {
+    ("a removed value is dropped when an insertion needs room", ScriptHash::Zero, steps! {
         Fills(0, 32), Sees(32, 32), Removes(0, true), Removes(0, false), Removes(5, true),
-        Sees(30, 32), Inserts(32), Sees(31, 33), Now(1, false), Sees(31, 33), Inserts(33),
-        Sees(32, 32) }),
+        Sees(30, 32), Inserts(32), Sees(31, 31), Inserts(33), Sees(32, 32) }),
     // Key 34 takes the slot of key 5.
-    ("marks wait while an own slot is free", ScriptHash::Zero, steps! {
-        Fills(0, 32), Now(0, false), Removes(0, true), Removes(5, true), Inserts(33), Sees(31, 31),
+    ("tombstones wait while an own slot is free", ScriptHash::Zero, steps! {
+        Fills(0, 32), Removes(0, true), Removes(5, true), Inserts(33), Sees(31, 31),
         Removes(7, true), Sees(30, 31), Inserts(34), Sees(31, 32), Inserts(35), Sees(32, 32) }),
-    ("a removed key is inserted while its marks wait", ScriptHash::Zero, steps! {
-        Fills(0, 32), Removes(3, true), Sees(31, 32), Inserts(3), Sees(32, 33), Removes(3, true),
-        Sees(31, 33), Inserts(3), Sees(32, 34), Returns(3), Sees(32, 34), Now(9, false),
-        Returns(3), Sees(32, 34), Inserts(40), Sees(33, 33), Removes(3, true), Sees(32, 33) }),
+    // Keys 32 and 33 are in a block of the chain, where there is room for key 34.
+    ("tombstones of a chain wait while all own slots have pairs", ScriptHash::Zero, steps! {
+        Fills(0, 34), Removes(32, true), Removes(33, true), Inserts(34), Sees(33, 35),
+        Removes(0, true), Inserts(35), Sees(33, 33) }),
+    ("a removed key is inserted while its tombstone waits", ScriptHash::Zero, steps! {
+        Fills(0, 31), Removes(3, true), Sees(30, 31), Inserts(3), Sees(31, 32), Removes(3, true),
+        Sees(30, 32), Inserts(3), Sees(31, 31), Returns(3), Sees(31, 31) }),
     ("a value that is handed over waits as others do", ScriptHash::Zero, steps! {
-        Fills(0, 32), Reads(4, true), Reads(4, false), Sees(31, 32), Removes(4, false),
-        Now(255, false), Inserts(4), Sees(32, 32) }),
+        Fills(0, 32), Reads(4, true), Reads(4, false), Sees(31, 32), Removes(4, false), Inserts(4),
+        Sees(32, 32) }),
     ("values of pairs that aren't kept wait as others do", ScriptHash::Zero, steps! {
         Fills(0, 32), Retains, Sees(16, 32), Retains, Sees(16, 32), Removes(1, false), Inserts(32),
-        Sees(17, 33), Now(1, false), Inserts(33), Sees(18, 18), Retains, Sees(17, 18) }),
-    ("a pair that stays leaves no mark", ScriptHash::Zero, steps! {
-        Fills(0, 32), Asks(4, false), Sees(32, 32), Asks(4, true), Sees(31, 32), Now(1, false),
-        Inserts(32), Sees(32, 32) }),
-    ("a copy has no marked value", ScriptHash::Zero, steps! {
+        Sees(17, 17), Inserts(33), Sees(18, 18), Retains, Sees(17, 18) }),
+    ("a pair that stays leaves no tombstone", ScriptHash::Zero, steps! {
+        Fills(0, 32), Asks(4, false), Sees(32, 32), Asks(4, true), Sees(31, 32), Inserts(32),
+        Sees(32, 32) }),
+    ("a copy has no removed value", ScriptHash::Zero, steps! {
         Copies(0, 0), Fills(0, 40), Removes(0, true), Removes(39, true), Sees(38, 40),
         Copies(38, 78), Sees(38, 40), Retains, Copies(19, 59), Removes(2, true), Sees(18, 40) }),
-    ("a clearing drops marked values too", ScriptHash::Zero, steps! {
-        Fills(0, 40), Removes(1, true), Removes(39, true), Inserts(1), Sees(39, 41), Clears,
-        Sees(0, 0), Inserts(1), Sees(1, 1), Clears, Clears, Sees(0, 0) }),
-    ("an index drops marked values as it goes", ScriptHash::Zero, steps! {
+    ("a clearing drops removed values too", ScriptHash::Zero, steps! {
+        Fills(0, 40), Removes(1, true), Removes(39, true), Inserts(1), Sees(39, 39),
+        Removes(1, true), Removes(38, true), Sees(37, 39), Clears, Sees(0, 0), Inserts(1),
+        Sees(1, 1), Clears, Clears, Sees(0, 0) }),
+    ("an index drops removed values as it goes", ScriptHash::Zero, steps! {
         Fills(0, 40), Removes(1, true), Removes(39, true), Removes(0, true), Sees(37, 40) }),
     // Keys 0 to 30 are in the first bucket of two.
-    ("marks go with their array as the index has more slots", ScriptHash::Spread, steps! {
+    ("tombstones go with their array as the index has more slots", ScriptHash::Spread, steps! {
         Fills(0, 31), Removes(2, true), Removes(3, true), Sees(29, 31), Reserves(128),
         Inserts(255), Sees(30, 30) }),
-    ("marks go with the array of the last pair", ScriptHash::Zero, steps! {
+    ("tombstones go with the array of the last pair", ScriptHash::Zero, steps! {
         Fills(0, 3), Removes(1, true), Removes(0, true), Sees(1, 3), Removes(2, true), Sees(0, 0),
         Inserts(2), Sees(1, 1) })
 };
 
 #[test]
-fn each_marked_value_is_dropped_once(rt: HostRuntime) -> Result<(), Fail> {
+fn each_removed_value_is_dropped_once(rt: HostRuntime) -> Result<(), Fail> {
     let counted = Rc::new(rt.alloc(), 0)?;
     for story in STORIES {
         let mut index: Index = HashIndex::with_hasher(rt.alloc(), story.1);
@@ -97,56 +98,41 @@ fn each_marked_value_is_dropped_once(rt: HostRuntime) -> Result<(), Fail> {
 
 // Takes the steps of a story.
 fn play(rt: &impl Abort, index: &mut Index, counted: &Rc<u64>, story: &Story) {
-    let mut now = FixedGeneration {
-        epoch: 0,
-        keep: true,
-    };
     for (row, step) in story.2.iter().enumerate() {
-        match *step {
-            Now(epoch, keep) => now = FixedGeneration { epoch, keep },
-            _ => take(rt, index, counted, &now, (story.0, row), step),
-        }
+        take(rt, index, counted, (story.0, row), step);
     }
 }
 
 // Inserts a key with a clone of a value. Whether it was inserted.
-fn insert_clone(index: &mut Index, counted: &Rc<u64>, key: u64, now: &FixedGeneration) -> bool {
+fn insert_clone<H: KeyHash<u64>>(
+    index: &mut HashIndex<u64, Rc<u64>, H>,
+    counted: &Rc<u64>,
+    key: u64,
+) -> bool {
     match counted.clone() {
-        Ok(value) => index.insert(key, value, now).is_ok(),
+        Ok(value) => index.insert(key, value).is_ok(),
         Err(_) => false,
     }
 }
 
 // Takes a step, and compares its result.
-fn take(
-    rt: &impl Abort,
-    index: &mut Index,
-    counted: &Rc<u64>,
-    now: &FixedGeneration,
-    at: At,
-    step: &Step,
-) {
+fn take(rt: &impl Abort, index: &mut Index, counted: &Rc<u64>, at: At, step: &Step) {
     match *step {
-        Fills(from, to) => check_same(rt, fill(index, counted, now, from, to), true, at),
-        Inserts(key) => check_same(rt, insert_clone(index, counted, key, now), true, at),
-        Returns(key) => check_same(rt, insert_clone(index, counted, key, now), false, at),
+        Fills(from, to) => check_same(rt, fill(index, counted, from, to), true, at),
+        Inserts(key) => check_same(rt, insert_clone(index, counted, key), true, at),
+        Returns(key) => check_same(rt, insert_clone(index, counted, key), false, at),
         Reads(key, there) => {
-            check_same(
-                rt,
-                index.remove_with(&key, now, is_cloned).is_some(),
-                there,
-                at,
-            );
+            check_same(rt, index.remove_with(&key, is_cloned).is_some(), there, at);
         }
-        _ => change(rt, index, counted, now, at, step),
+        _ => change(rt, index, counted, at, step),
     }
 }
 
 // Inserts keys with clones of a value. Whether all were inserted.
-fn fill(index: &mut Index, counted: &Rc<u64>, now: &FixedGeneration, from: u64, to: u64) -> bool {
+fn fill(index: &mut Index, counted: &Rc<u64>, from: u64, to: u64) -> bool {
     let mut are_in = true;
     for key in from..to {
-        are_in = insert_clone(index, counted, key, now) && are_in;
+        are_in = insert_clone(index, counted, key) && are_in;
     }
     are_in
 }
@@ -160,24 +146,17 @@ fn is_cloned(_own: &u64, value: &Rc<u64>) -> bool {
 }
 
 // Takes a step that removes pairs, raises the minimum, or looks.
-fn change(
-    rt: &impl Abort,
-    index: &mut Index,
-    counted: &Rc<u64>,
-    now: &FixedGeneration,
-    at: At,
-    step: &Step,
-) {
+fn change(rt: &impl Abort, index: &mut Index, counted: &Rc<u64>, at: At, step: &Step) {
     match step {
-        Removes(key, there) => check_same(rt, index.remove(key, now), *there, at),
+        Removes(key, there) => check_same(rt, index.remove(key), *there, at),
         Asks(key, gone) => {
             let condition = |_own: &u64, _value: &Rc<u64>| *gone;
-            check_same(rt, index.remove_if(key, condition, now), *gone, at);
+            check_same(rt, index.remove_if(key, condition), *gone, at);
         }
         Reserves(additional) => {
             let _ = index.raise_minimum(*additional);
         }
-        Retains => index.retain(&mut is_even, now),
+        Retains => index.retain(&mut is_even),
         Clears => index.clear(),
         Copies(pairs, values) => copy(rt, index, counted, (*pairs, *values), at),
         Sees(pairs, values) => {
@@ -197,4 +176,45 @@ fn copy(rt: &impl Abort, index: &Index, counted: &Rc<u64>, wanted: (usize, usize
         }
         Err(_) => check_same(rt, true, false, (at, "no memory")),
     }
+}
+
+// How many keys an index has at a time.
+const WINDOW: u64 = 100;
+
+// How many values are in chains: those of 101 pairs at most, and those that were removed while all
+// own slots of their bucket had pairs, of which each is gone in 100 rounds.
+const CHAINED: usize = 201;
+
+#[test]
+fn removed_values_dont_pile_up(rt: HostRuntime) -> Result<(), Fail> {
+    let counted = Rc::new(rt.alloc(), 0)?;
+    for hasher in [ScriptHash::Id, ScriptHash::Spread, ScriptHash::Zero] {
+        let mut index: Index = HashIndex::with_hasher(rt.alloc(), hasher);
+        slide(&rt, &mut index, &counted, "script");
+    }
+    let mut hashed: HashIndex<u64, Rc<u64>> = HashIndex::new(rt.alloc());
+    slide(&rt, &mut hashed, &counted, "default");
+    Ok(())
+}
+
+// Inserts a key in each round, and removes the one of 100 rounds ago.
+fn slide<H: KeyHash<u64>>(
+    rt: &impl Abort,
+    index: &mut HashIndex<u64, Rc<u64>, H>,
+    counted: &Rc<u64>,
+    name: &'static str,
+) {
+    let mut chained: usize = 0;
+    for round in 0..20000u64 {
+        let is_in = insert_clone(index, counted, round);
+        let is_gone = match round.checked_sub(WINDOW) {
+            Some(earlier) => index.remove(&earlier),
+            None => true,
+        };
+        check_same(rt, (is_in, is_gone), (true, true), (name, round));
+        let values = Rc::strong_count(counted).saturating_sub(1);
+        chained = chained.max(values.saturating_sub(index.capacity()));
+    }
+    let few = (index.capacity() <= 1600, chained <= CHAINED);
+    check_same(rt, (index.len(), few), (100, (true, true)), (name, chained));
 }

@@ -135,10 +135,10 @@ fn caches_and_indexes_are_printed(rt: HostRuntime) -> Result<(), Fail> {
     for (number, row) in ROWS.iter().enumerate() {
         let mut cache: Cache = HashCache::with_hasher(rt.alloc(), ScriptHash::Id);
         let mut index: Index = HashIndex::with_hasher(rt.alloc(), ScriptHash::Id);
-        let is_gone = index.insert(7, 70, &()).is_ok() && index.remove(&7, &());
+        let is_gone = index.insert(7, 70).is_ok() && index.remove(&7);
         check_same(&rt, is_gone, true, number);
         if let Some((key, value)) = row.pair {
-            let are_in = cache.put(key, value).is_ok() && index.insert(key, value, &()).is_ok();
+            let are_in = cache.put(key, value).is_ok() && index.insert(key, value).is_ok();
             check_same(&rt, are_in, true, number);
         }
         check_shown(&rt, rt.alloc(), &cache, row.map, number);

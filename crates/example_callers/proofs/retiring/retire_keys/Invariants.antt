@@ -6,10 +6,10 @@ use Rattle.collections.specs.Maps.{contains, map_of}
 use Rattle.example_callers.specs.Without.{IsWithout}
 use Rattle.example_callers.proofs.retiring.retire_keys.Given as goal
 
--- the keys so far are gone, and no mark is new but with the generation's epoch
+-- the keys so far are gone, and no tombstone is new but of epoch 0
 abbrev pub invariant-loop-key : goal.invariant-loop-key
 invariant-loop-key g l = IsWithout g.K.PartialEq.eq (take l.key-index l.retired) (map_of l.fn.index) (map_of l.index)
-    × MarksBy (g.G.Generation.epoch_of l.generation) (marks_of l.fn.index.arrays) (marks_of l.index.arrays)
+    × MarksBy 0 (marks_of l.fn.index.arrays) (marks_of l.index.arrays)
 
 -- the keys so far that are left are counted
 abbrev pub invariant-loop-other : goal.invariant-loop-other

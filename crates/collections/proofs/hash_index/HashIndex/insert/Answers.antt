@@ -1,5 +1,5 @@
 use Rattle.std.proofs.Common.{◌%◌}
-use Rattle.collections.proofs.KeptMarks.{inserted_keeps}
+use Rattle.collections.proofs.InsertedMarks.{none_kept}
 use Rattle.collections.proofs.Marks.{no_new-inserted}
 use Rattle.collections.proofs.Slots.{insertion_grows}
 use Rattle.collections.proofs.Steps.{inserts}
@@ -15,20 +15,14 @@ returns-clause-map g c = rw (← c.self.view_is) (inserts g.K.PartialEq.eq g.met
 pub returns-clause-marks : goal.returns-clause-marks
 returns-clause-marks g c =
     let hash = g.H.KeyHash.hash_of c.self.inside.table.hasher c.args.key in
-    rw (← c.self.view_is) (no_new-inserted 79 (g.G.Generation.keeps c.args.generation.now) (c.args.key, c.args.value) (hash % 256) hash
+    rw (← c.self.view_is) (no_new-inserted 79 (c.args.key, c.args.value) (hash % 256) hash
     c.self.inside.table c.insert_growing-outcome.result c.insert_growing-outcome.new.self c.insert_growing-outcome.ensures.arrays)
-
-pub returns-clause-kept : goal.returns-clause-kept
-returns-clause-kept g c =
-    let puts = c.insert_growing-outcome.ensures.arrays in
-    rw (← c.self.view_is) (inserted_keeps (g.G.Generation.keeps c.args.generation.now) 79 _ _ (c.args.key, c.args.value)
-    c.self.inside.table puts.between c.insert_growing-outcome.new.self c.insert_growing-outcome.result puts.answer puts.found puts.done)
 
 pub returns-clause-memory : goal.returns-clause-memory
 returns-clause-memory g c = λ is. rw (← c.self.view_is) (index_lacks g.H.KeyHash.hash_of c.args.key c.self.inside.table
     c.insert_growing-outcome.new.self
     c.sound-2.ensures.one_map.placed (c.learn_refused.ensures.current c.args.key c.args.value is)
-    (c.learn_refused.ensures.old c.args.key c.args.value is) (g.G.Generation.keeps c.args.generation.now) c.args.value
+    (c.learn_refused.ensures.old c.args.key c.args.value is) c.args.value
     g.K.PartialEq.eq c.insert_growing-outcome.result c.args.key c.args.value c.insert_growing-outcome.ensures.map
     c.insert_growing-outcome.ensures.arrays is)
 
@@ -36,5 +30,5 @@ pub returns-clause-slots : goal.returns-clause-slots
 returns-clause-slots g c =
     let puts = c.insert_growing-outcome.ensures.arrays in
     rw (← c.self.view_is) (insertion_grows g.H.KeyHash.hash_of c.args.key c.self.inside.table c.insert_growing-outcome.new.self
-    c.sound-2.ensures.one_map.placed c.sound-2.ensures.beside g.K.PartialEq.eq 79 (g.G.Generation.keeps c.args.generation.now) c.args.value
+    c.sound-2.ensures.one_map.placed c.sound-2.ensures.beside g.K.PartialEq.eq 79 none_kept c.args.value
     c.insert_growing-outcome.result puts.answer puts.between puts.found puts.done c.insert_growing-outcome.ensures.map)

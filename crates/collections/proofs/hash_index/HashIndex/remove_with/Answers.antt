@@ -17,12 +17,11 @@ returns-clause-marks g c = rw (← c.self.view_is) c.mark_by-outcome.ensures.mar
 pub returns-clause-marked : goal.returns-clause-marked
 returns-clause-marked g c =
     let marks = c.mark_by-outcome.ensures.arrays in
-    rw (← c.self.view_is, ← c.new.ensures.form) (marks_removed (g.Q.KeyForm.stands_for c.new.result.form) _ _ c.self.inside.table
+    rw (← c.self.view_is, ← c.new.ensures.form) (marks_removed (g.Q.KeyForm.stands_for c.new.result.form) _ c.self.inside.table
     marks.between c.mark_by-outcome.new.self marks.prepared _ marks.done)
 
 pub returns-clause-slots : goal.returns-clause-slots
 returns-clause-slots g c =
-    let epoch = g.G.Generation.epoch_of c.args.generation.now in
     rw (← c.self.view_is) (taken_loses 79 c.hash_by-hash.result c.self.inside.table c.mark_by-outcome.new.self
-    (g.Q.KeyForm.stands_for c.new.result.form) (λ bucket at. slots_marked bucket at epoch) (is_some c.mark_by-outcome.result)
+    (g.Q.KeyForm.stands_for c.new.result.form) (λ bucket at. slots_marked bucket at 0) (is_some c.mark_by-outcome.result)
     c.mark_by-outcome.ensures.arrays)
