@@ -51,7 +51,7 @@ pub(crate) type Index = HashIndex<u64, u64>;
 /// A cache.
 pub(crate) type Cache = HashCache<u64, u64>;
 
-//// The most slots of a cache: at least four for each pair that comes.
+/// The most slots of a cache: at least four for each pair that comes.
 const MOST_SLOTS: usize = 1 << 21;
 
 impl Shaped for Map {
