@@ -59,7 +59,9 @@ fn run_calls<H: KeyHash<u64>>(
 
 /// The next state of an irregular order, whose upper bit says which map is asked.
 fn next_state(state: u64) -> u64 {
-    state.wrapping_mul(6364136223846793005).wrapping_add(1442695040888963407)
+    state
+        .wrapping_mul(6364136223846793005)
+        .wrapping_add(1442695040888963407)
 }
 
 /// The sum of what `len` returns.
@@ -83,7 +85,9 @@ fn empties<H: KeyHash<u64>>(maps: &[HashMap<u64, u64, H>]) -> u64 {
     let mut count: u64 = 0;
     for _ in 0..CALLS {
         state = next_state(state);
-        if let Some(map) = maps.get((state >> 63) as usize) && map.is_empty() {
+        if let Some(map) = maps.get((state >> 63) as usize)
+            && map.is_empty()
+        {
             count = count.wrapping_add(1);
         }
     }
