@@ -1,16 +1,16 @@
 #!/usr/bin/env bash
-# Prints what a program pays that takes the pairs of one collection to another, or goes through them
-# in the order of their slots, on the collections and, where `rustc` is there, on those of Rust's
-# standard library: under the collections' default hash ('same'), and under std's own. In these orders
-# keys of one bucket come one after the other. Also printed are the longest insertion of a copy, calls
-# that only count, and collections of few pairs.
+# Prints what programs pay that take pairs from one collection to another, or go through one in the
+# order of its slots: keys of one bucket then come one after the other. Beside the collections are,
+# where `rustc` is there, those of Rust's standard library, under the collections' default hash
+# ('same') and under std's own. Also printed are the longest insertion of a copy, calls that only
+# count, and collections of few pairs.
 #
 # A figure is a median. Where std has no such collection, as an index, its map stands beside. The
-# machine's load stands in the first line: other work beside it changes what a call costs. It asserts
-# nothing.
+# machine's load stands in the first line: other work beside it changes what a call costs. It
+# asserts nothing.
 #
-# Called as `bench/shapes.sh [ROUNDS]`. Without a number there are 3 rounds. With PROGRAM=FILE it runs
-# that program, built of crates/bench_table, and proves nothing.
+# Called as `bench/shapes.sh [ROUNDS]`. Without a number there are 3 rounds. With PROGRAM=FILE in
+# the environment it runs that file, a build of crates/bench_table, and proves nothing.
 set -eu
 root=$(dirname -- "$(dirname -- "$(readlink -f -- "${BASH_SOURCE[0]}")")")
 rounds=${1:-3}
@@ -46,8 +46,8 @@ fi
 jobs=({map,set,index,cache}\ {1000,8000,64000,512000} small\ 64000 longest\ 128000
     counts\ {1000,64000,1000000} crowd\ 10000)
 
-# A line for each figure: the column, the pairs, the nanoseconds a pair or call, the share of pairs that
-# are left, and the shape.
+# A line for each figure: the column, the pairs, the nanoseconds a pair or call, the share of pairs
+# that are there at the end, and the shape.
 for ((round = 0; round < rounds; round++)); do
     for job in "${jobs[@]}"; do
         read -r group pairs <<<"$job"
@@ -77,16 +77,20 @@ awk -F '\t' -v columns="$columns" '
         n = count[group]
         return n ? shown(figures[group, int((n + 1) / 2)] / unit) : "-"
     }
-    function head(title, names,    c, text) {
-        text = sprintf("%-36s", title)
+    function head(title,    wide, c, s, text) {
+        text = sprintf("\n%-" (sizes == 1 ? 38 : 44) "s", title)
+        wide = (sizes == 1 ? "%" : "%-") 10 * sizes "s"
+        for (c = 1; c <= kinds; c++) text = text sprintf(wide, kind[c])
+        sub(/ +$/, "", text)
+        print text
+        if (sizes == 1) return
+        text = sprintf("%-38s", "")
         for (c = 1; c <= kinds; c++)
-            for (s = 1; s <= sizes; s++)
-                text = text sprintf("%10s", s > 1 ? size[s] : kind[c] " " size[s])
-        print ""
+            for (s = 1; s <= sizes; s++) text = text sprintf("%10s", size[s])
         print text
     }
     function line(name, label, unit,    c, s, text) {
-        text = sprintf("%-36s", "  " label)
+        text = sprintf("%-38s", "  " label)
         for (c = 1; c <= kinds; c++)
             for (s = 1; s <= sizes; s++)
                 text = text sprintf("%10s", figure(kind[c], size[s], name, unit))
@@ -98,22 +102,23 @@ awk -F '\t' -v columns="$columns" '
             if (shape[i] ~ names) line(shape[i], substr(shape[i], prefix), unit)
     }
     END {
-        kinds = split(columns, kind)
-        small = "insert 3|insert, remove|insert 1|3 pairs|longest"
-        sizes = split("1000 8000 64000 512000", size)
+        kinds = split(columns, kind, " ")
+        small = "insert 3|insert, remove|insert 1|3 pairs"
+        sizes = split("1000 8000 64000 512000", size, " ")
         head("ns a pair")
         for (i = 1; i <= shapes; i++)
-            if (shape[i] !~ small && shape[i] !~ /^(counts|crowd)/) line(shape[i], shape[i], 1)
-        text = sprintf("%-36s", "  cache: % that a loop keeps")
+            if (shape[i] !~ small && shape[i] !~ /^(counts|crowd)|longest/)
+                line(shape[i], shape[i], 1)
+        text = sprintf("%-38s", "  cache: % that a loop keeps")
         for (s = 1; s <= sizes; s++)
             text = text sprintf("%10s", sprintf("%.2f", 100 * left["here " size[s] " cache: loop"]))
         print text
-        sizes = split("1000 64000 1000000", size)
-        table("ns a call, by pairs", "^counts", 1, 9)
-        sizes = split("10000", size)
-        table("ns a call, all keys of one hash", "^crowd", 1, 8)
-        sizes = split("64000", size)
-        table("ns a round, of few pairs", "insert 3|insert, remove|insert 1|3 pairs", 1, 1)
-        sizes = split("128000", size)
-        table("us, the longest of a copy", "longest", 1000, 1)
+        sizes = split("1000 64000 1000000", size, " ")
+        table("ns a call", "^counts", 1, 9)
+        sizes = split("10000", size, " ")
+        table("ns a call, 10000 keys of one hash", "^crowd", 1, 8)
+        sizes = split("64000", size, " ")
+        table("ns a round, of few pairs", small, 1, 1)
+        sizes = split("128000", size, " ")
+        table("us, in a copy of 128000 pairs", "longest", 1000, 1)
     }' "$folder/figures" "$folder/sorted"

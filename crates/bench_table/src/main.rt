@@ -4,8 +4,8 @@
 //! The arguments say what runs: `table`, `collections` or `map`, then `calls`, `large` or `single`,
 //! and a number of pairs; `cache` or `lru`, then `calls` and a number of pairs; `shapes`, then a
 //! group of shapes and a number of pairs; or `arrays`. Small numbers of pairs run several times.
-//! Without arguments all courses but the shapes run once, over few pairs, and nothing is printed that
-//! varies.
+//! Without arguments all courses but the shapes run once, over few pairs, and nothing is printed
+//! that varies.
 #![tactic(auto)]
 
 mod arrays;

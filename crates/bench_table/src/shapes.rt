@@ -1,8 +1,8 @@
 //! What programs do with the pairs of a collection, as `bench/shapes.sh` times it. Pairs of another
 //! collection come in the order of its slots, which is that of their hashes.
 //!
-//! Each figure is a line: nanoseconds, the number of pairs or calls, how many pairs there are at the
-//! end, and the name. All collections have the default hash.
+//! Each figure is a line: nanoseconds, the number of pairs or calls, how many pairs there are at
+//! the end, and the name. All collections have the default hash.
 mod counts;
 mod of_all;
 mod of_maps;
@@ -38,7 +38,7 @@ pub(crate) fn run_shapes(rt: &HostRuntime, group: &str, pairs: u64) -> io::Resul
 /// Runs a table of shapes, each a name and a function, on new collections.
 macro_rules! run_table {
     ($rt:expr, $kind:expr, $pairs:expr, $from:expr; $($name:literal => $shape:expr,)*) => {{
-        $(run_shape($rt, $kind, $name, $pairs, $from, $shape)?;)*
+        $(run_shape($rt, $kind, $name, $pairs, $from, |alloc, from| $shape(alloc, from))?;)*
     }};
 }
 
