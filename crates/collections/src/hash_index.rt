@@ -5,8 +5,8 @@
 //! answers as std's `HashMap` does; its tombstones, which no look-up, walk or count sees, are
 //! `marks_of` its arrays. Only a removal leaves a tombstone, with epoch 0. An insertion drops those
 //! of its bucket if no own slot there is free and one has a tombstone; while all own slots have
-//! pairs, those of the chain stay. Else a tombstone is dropped with all arrays, if the minimum is 0,
-//! or with the old array, by a call that moves pairs out of it.
+//! pairs, those of the chain stay. Else a tombstone is dropped with all arrays, if the minimum is
+//! 0, or with the old array, by a call that moves pairs out of it.
 //!
 //! Ports scc's `src/hash_index.rs` to an owned index: where scc asks its collector whether a reader
 //! may still see a removed pair, here none can.

@@ -1,6 +1,6 @@
 -- Doubling the slots of a table for a home that has as many pairs as own slots.
-use Rattle.bucket_table.proofs.Words.{ArraysView, BucketView, Err, IsHome, IsLength, KeepsArrays, List, WorksUnits, ap, arith, bucket_at, length}
-use Rattle.bucket_table.proofs.Words.{Result, pairs_in, refl, subst, sym, ℕ, ◌/◌, ◌∙◌, ◌≡◌, ◌≤◌}
+use Rattle.bucket_table.proofs.Words.{ArraysView, BucketView, Err, IsHome, IsLength, KeepsArrays, List, Result, WorksUnits, ap, arith}
+use Rattle.bucket_table.proofs.Words.{bucket_at, length, pairs_in, refl, subst, sym, ℕ, ◌/◌, ◌∙◌, ◌≡◌, ◌≤◌}
 use Rattle.bucket_slots.specs.Homes.{Meets}
 use Rattle.bucket_slots.proofs.CallerLemmas.{homes_meet, one_source, scales}
 use Rattle.bucket_table.specs.Map.Preparing.{HomeWantsMemory, IsMissing}
