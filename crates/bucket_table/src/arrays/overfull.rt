@@ -99,9 +99,9 @@ impl<K: Drop, V: Drop, L: LruList + Drop, const TYPE: u8> Arrays<K, V, L, TYPE> 
         }
     }
 
-    /// Makes an empty array of twice the slots the current one, and the current one the old one, if
-    /// the home of a hash has as many pairs as own slots, there is no old array, and twice the slots
-    /// do not pass the maximum. Returns whether it did.
+    /// Makes an empty array of twice the slots the current one, and the current one the old one,
+    /// if the home of a hash has as many pairs as own slots, there is no old array, and twice the
+    /// slots do not pass the maximum. Returns whether it did.
     ///
     /// # Errors
     ///
