@@ -172,9 +172,11 @@ pub(crate) const CASES: [Case; 22] = [
         steps: &[Resizes(true), Sees((256, Some(0))), Resizes(false)],
         refused: Outcome::AsBefore,
     },
+    // Half of the pairs go to each of two buckets, so that the unit that counts them at last moves
+    // them without memory.
     Case {
-        hasher: ScriptHash::Zero,
-        start: &[Puts(0, 48), Sees((64, None))],
+        hasher: ScriptHash::Spread,
+        start: &[Puts(40, 88), Sees((64, None))],
         steps: &[Doubles(0, true), Sees((128, Some(0))), Doubles(0, false)],
         refused: Outcome::AsBefore,
     },
