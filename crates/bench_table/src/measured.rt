@@ -1,7 +1,7 @@
 //! What is measured of a map of numbers, and the two maps: a table, and the standard library's.
 use crate::hashes::{MapHash, TableHash};
 use bucket_slots::bucket::{Bucket, MAP};
-use bucket_table::hash_table::HashTable;
+use bucket_table::hash_table::{HashTable, ResizeRule};
 use std::alloc::Global;
 use std::collections::HashMap;
 use std::io;
@@ -46,7 +46,7 @@ impl Measured for Table {
 
     #[inline(always)]
     fn put(&mut self, key: u64) -> bool {
-        self.insert_pair(key, key, &()).is_ok()
+        self.insert_pair(key, key, &(), ResizeRule::Sampled).is_ok()
     }
 
     #[inline(always)]
@@ -56,7 +56,7 @@ impl Measured for Table {
 
     #[inline(always)]
     fn take(&mut self, key: u64) -> bool {
-        HashTable::take(self, &key).is_some()
+        HashTable::take(self, &key, ResizeRule::Sampled).is_some()
     }
 
     #[inline(never)]

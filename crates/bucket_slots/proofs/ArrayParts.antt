@@ -178,22 +178,26 @@ module _ {K V : Type 0} where
         → part ≡ index / 2 ^ bits → offset ≡ index % 2 ^ bits → IsPlace parts spare len bits part offset index buckets
     place_is part offset index buckets is below part_is offset_is = rw (part_is, offset_is, ← is) (place_by_index index (rw is below))
 
-  -- an array as it is made
+  -- as many empty buckets as a capacity asks for are a new array
+  pub new_array : (capacity len : ℕ) (buckets : Buckets K V) → IsLengthFor capacity len → buckets ≡ replicate len empty_bucket
+      → IsNewArray capacity buckets
+  new_array capacity len buckets fits is =
+      let long : length buckets ≡ len = ap length is ∙ length-replicate len empty_bucket in
+      record {
+        len = subst (λ n. IsLengthFor capacity n) (sym long) fits;
+        empty = is ∙ ap (λ n. replicate n empty_bucket) (sym long);
+      }
+
+  -- buckets as they are made
   module _ (parts : List (Buckets K V)) (count part_len bits len : ℕ) (long : part_len ≡ 2 ^ bits) (whole : len ≡ count * 2 ^ bits)
       (is : parts ≡ replicate count (replicate part_len empty_bucket)) where
-    new_view : flattened parts ≡ replicate len empty_bucket
+    pub new_view : flattened parts ≡ replicate len empty_bucket
     new_view =
         ap flattened is ∙ flattened-replicate count part_len empty_bucket ∙ ap (λ m. replicate (count * m) empty_bucket) long
         ∙ ap (λ n. replicate n empty_bucket) (sym whole)
 
     new_len : length (flattened parts) ≡ len
     new_len = ap length new_view ∙ length-replicate len empty_bucket
-
-    pub new_array : (capacity : ℕ) → IsLengthFor capacity len → IsNewArray capacity (flattened parts)
-    new_array capacity fits = record {
-      len = subst (λ n. IsLengthFor capacity n) (sym new_len) fits;
-      empty = new_view ∙ ap (λ n. replicate n empty_bucket) (sym new_len);
-    }
 
     pub new_parts : (spare : Buckets K V) → bits < 64 → spare ≡ unmade_bucket false ∷ unmade_bucket true ∷ []
         → AreParts parts spare len bits

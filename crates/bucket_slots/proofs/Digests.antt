@@ -5,20 +5,20 @@ use Rattle.bucket_slots.proofs.Words.{get_or-set_same, has_byte, is_free, is_mar
 use Rattle.bucket_slots.proofs.Words.{position, sum_by-append, trailing_zeros, get_or-le-sum_by, bit_at_not, w32, slots_without}
 use Rattle.bucket_slots.proofs.Words.{slots_with, slots_after_insertion, ne_eqb, is_wanted, place_wanted, first_from, None}
 use Rattle.bucket_slots.proofs.Words.{Bool, cases_lt, inl, inr, is_live, length, length-set, live, live_pairs, marked, min}
-use Rattle.bucket_slots.proofs.Words.{ones, pairs_in, refl, set, slot_at, subst, sym, true, common_steps, flattened, part_at}
-use Rattle.bucket_slots.proofs.Words.{replicate, ◌≤◌, ◌/◌, ◌%◌, suc, with_unmade, zero, ℕ, ◌-◌, ◌<◌, ◌==◌, ◌^◌, ◌∙◌, ◌≡◌, ◌≢◌}
+use Rattle.bucket_slots.proofs.Words.{ones, pairs_in, refl, set, slot_at, subst, sym, true, common_steps, flattened}
+use Rattle.bucket_slots.proofs.Words.{replicate, ◌≤◌, suc, with_unmade, zero, ℕ, ◌-◌, ◌<◌, ◌==◌, ◌^◌, ◌∙◌, ◌≡◌, ◌≢◌}
 use Rattle.std.specs.Int.Count.{ones-ones}
 use Rattle.bucket_slots.specs.ArrayView.{bucket_at}
 use Rattle.bucket_slots.specs.BucketView.{block_at, bucket_with_value, row_at, slot_in, with_slot_at}
 use Rattle.bucket_slots.specs.Evicting.{slots_touched}
 use Rattle.bucket_slots.specs.Slots.{slot_with_value}
-use Rattle.bucket_slots.specs.Layout.ArrayParts.{AreParts}
+use Rattle.bucket_slots.specs.Layout.ArrayFields.{IsArray}
 use Rattle.bucket_slots.specs.Layout.Digests.{Settles, AreDigests, ChangesOne, Digest, DigestLists, IsDigest, IsLost, KnowsNone, digest_at}
 use Rattle.bucket_slots.specs.declared.bucket.TheConstants.{BUCKET_LEN}
 use Rattle.bucket_slots.proofs.Counting.{length-live_pairs, length-live_pairs-append, tally}
 use Rattle.bucket_slots.proofs.Bitmaps.{lowest}
 use Rattle.bucket_slots.proofs.Positions.{position_at}
-use Rattle.bucket_slots.proofs.ArrayParts.{IsPlace, part_unmade, place_is}
+use Rattle.bucket_slots.proofs.ArrayParts.{part_unmade}
 use Rattle.bucket_slots.proofs.Spreading.{put_in_own}
 use Rattle.bucket_slots.proofs.FirstPlaces.{first_chain}
 use Rattle.bucket_slots.proofs.RowMasks.{candidate_live, unwanted}
@@ -136,33 +136,29 @@ module _ {K V : Type 0} where
   free_from free is = refl
   free_from slot is = cc
 
-  module _ (parts : List (List (BucketView K V))) (spare : List (BucketView K V)) (len bits part offset index : ℕ)
-      (buckets : List (BucketView K V))
-      (place : IsPlace parts spare len bits part offset index buckets) (view : flattened parts ≡ buckets) (below : index < length buckets)
-      (old new : DigestLists) (kept : AreDigests old (flattened parts)) (others : ChangesOne index old new) where
-    -- one digest and its bucket change, where the parts hold it
-    pub set_there : (bucket : BucketView K V) → ((digest_at new index).live ≢ 2 ^ 32 - 1 → IsDigest (digest_at new index) bucket)
-        → AreDigests new (flattened (set parts part (set (part_at parts part) offset bucket)))
-    set_there bucket here =
-        subst (λ (xs : List (BucketView K V)). AreDigests new xs) (sym (place.written bucket))
-        (AreDigests-set old new buckets index bucket (subst (λ (xs : List (BucketView K V)). AreDigests old xs) view kept) below
-        others here)
+  module _ (old new : DigestLists) (buckets : List (BucketView K V)) (index offset size : ℕ)
+      (kept : IsArray (length buckets) offset size × AreDigests old buckets) (below : index < length buckets)
+      (others : ChangesOne index old new) where
+    -- one digest and its bucket change in an array
+    pub set_at : (bucket : BucketView K V) → ((digest_at new index).live ≢ 2 ^ 32 - 1 → IsDigest (digest_at new index) bucket)
+        → IsArray (length (set buckets index bucket)) offset size × AreDigests new (set buckets index bucket)
+    set_at bucket here = (
+      subst (λ (n : ℕ). IsArray n offset size) (sym (length-set buckets index bucket)) kept.0,
+      AreDigests-set old new buckets index bucket kept.1 below others here,
+    )
 
-    pub lost_there : IsLost (digest_at new index) → (bucket : BucketView K V)
-        → AreDigests new (flattened (set parts part (set (part_at parts part) offset bucket)))
-    lost_there lost bucket = set_there bucket (λ said. absurd (said lost))
+    pub lost_at : IsLost (digest_at new index) → (bucket : BucketView K V)
+        → IsArray (length (set buckets index bucket)) offset size × AreDigests new (set buckets index bucket)
+    lost_at lost bucket = set_at bucket (λ said. absurd (said lost))
 
-  -- a bucket changes, and what its digest says of it stays
-  pub kept_there : (parts : List (List (BucketView K V))) (spare : List (BucketView K V)) (len bits part offset index : ℕ)
-      (buckets : List (BucketView K V)) → IsPlace parts spare len bits part offset index buckets → flattened parts ≡ buckets
-      → index < length buckets → (digests : DigestLists) → AreDigests digests (flattened parts) → (bucket : BucketView K V)
-      → ((digest : Digest) → IsDigest digest (bucket_at (part_at parts part) offset) → IsDigest digest bucket)
-      → AreDigests digests (flattened (set parts part (set (part_at parts part) offset bucket)))
-  kept_there parts spare len bits part offset index buckets place view below digests kept bucket stays =
-      let read = ap (λ (xs : List (BucketView K V)). bucket_at xs index) view ∙ sym place.read in
-      set_there parts spare len bits part offset index buckets place view below digests digests kept (λ i other. refl) bucket
-      (λ said. stays (digest_at digests index) (subst (λ (b : BucketView K V). IsDigest (digest_at digests index) b) read
-      (kept index said)))
+  -- a bucket of an array changes, and what its digest says of it stays
+  pub kept_at : (digests : DigestLists) (buckets : List (BucketView K V)) (index offset size : ℕ)
+      → IsArray (length buckets) offset size × AreDigests digests buckets → index < length buckets → (bucket : BucketView K V)
+      → ((digest : Digest) → IsDigest digest (bucket_at buckets index) → IsDigest digest bucket)
+      → IsArray (length (set buckets index bucket)) offset size × AreDigests digests (set buckets index bucket)
+  kept_at digests buckets index offset size kept below bucket stays =
+      set_at digests digests buckets index offset size kept below (λ i other. refl) bucket
+      (λ said. stays (digest_at digests index) (kept.1 index said))
 
   valued : (slot : Slot K V) (value : V)
       → (is_live (slot_with_value slot value) ≡ is_live slot) × (byte_of (slot_with_value slot value) ≡ byte_of slot)
@@ -281,37 +277,6 @@ module _ {K V : Type 0} where
   pub without_own : (b : BucketView K V) (at : Place) → at.block ≡ 0
       → ((slots_without b at).own ≡ set b.own at.pos free) × ((slots_without b at).chain ≡ b.chain)
   without_own b at e = rw e (refl, refl)
-
-  -- where a bucket stands in the parts, and what its digest says
-  pub record IsReady (parts : List (List (BucketView K V))) (spare : List (BucketView K V)) (len bits part offset index : ℕ)
-      (buckets : List (BucketView K V)) (digest : Digest) (byte left : ℕ) : Type 0 where
-    pub place : IsPlace parts spare len bits part offset index buckets
-    pub digest_is : IsDigest digest (bucket_at (part_at parts part) offset)
-    pub mask : IsMaskOf (has_byte byte) (bucket_at (part_at parts part) offset).own left
-
-  pub ready_there : (parts : List (List (BucketView K V))) (spare : List (BucketView K V)) (len bits part offset index : ℕ)
-      (buckets : List (BucketView K V)) (digests : DigestLists) (byte lives left : ℕ) → AreParts parts spare len bits → flattened parts
-      ≡ buckets
-      → index < length buckets → part ≡ index / 2 ^ bits → offset ≡ index % 2 ^ bits → AreDigests digests (flattened parts)
-      → lives ≡ (digest_at digests index).live → lives ≢ 2 ^ 32 - 1
-      → (mask : ℕ) × IsMaskOf (λ own. own == byte) (digest_at digests index).bytes mask × (left ≡ bit_and mask lives)
-      → IsReady parts spare len bits part offset index buckets (digest_at digests index) byte left
-  ready_there parts spare len bits part offset index buckets digests byte lives left kept view below part_is offset_is are said
-      known found =
-      let place = place_is parts spare len bits kept part offset index buckets view below part_is offset_is in
-      let is = are index (λ lost. known (said ∙ lost)) in
-      let read : bucket_at (flattened parts) index ≡ bucket_at (part_at parts part) offset =
-      ap (λ (xs : List (BucketView K V)). bucket_at xs index) view ∙ sym place.read in
-      let here : IsDigest (digest_at digests index) (bucket_at (part_at parts part) offset) =
-      subst (λ (b : BucketView K V). IsDigest (digest_at digests index) b) read is in
-      let (mask, match, left_is) = found in
-      let same : left ≡ bit_and mask (digest_at digests index).live = left_is ∙ ap (λ n. bit_and mask n) said in
-      record {
-        place = place;
-        digest_is = here;
-        mask = subst (λ (n : ℕ). IsMaskOf (has_byte byte) (bucket_at (part_at parts part) offset).own n) (sym same)
-            (candidates_are (digest_at digests index) (bucket_at (part_at parts part) offset) byte mask here match);
-      }
 
   -- where a bit of a byte's mask is set, that slot is live
   pub some_in_mask : (byte : ℕ) (own : List (Slot K V)) (bits : ℕ) → IsMaskOf (has_byte byte) own bits → bits < 2 ^ 32 → bits ≢ 0

@@ -191,33 +191,36 @@ module _ {K V : Type 0} where
         };
       }
 
-  -- what happens to one of an array's parts happens to the array
-  pub spread_in_array : (kind : ℕ) (answers : Bor K → ℕ → Type 0) (parts : List (List (BucketView K V))) (spare : List (BucketView K V))
-      (len bits : ℕ) (kept : AreParts parts spare len bits) (part offset start shift size : ℕ) → IsArray len shift size
+  -- what happens to one of the parts happens to all buckets
+  pub spread_in_parts : (kind : ℕ) (answers : Bor K → ℕ → Type 0) (names : ℕ → ℕ → Type 0) (parts : List (List (BucketView K V)))
+      (spare : List (BucketView K V)) (len bits : ℕ) (kept : AreParts parts spare len bits) (part offset start : ℕ)
       → start < length (flattened parts) → part ≡ start / 2 ^ bits → offset ≡ start % 2 ^ bits → (s t : BucketView K V)
-      (now : List (BucketView K V)) → flattened parts ≡ now → (items : List (List (BucketView K V))) (left : List (BucketView K V))
-      → items ≡ set parts part left → ((first : ℕ) → start ≡ first + offset
-      → SpreadsSome kind answers (IsShifted shift) first s (part_at parts part) t left)
-      → AreParts items spare len bits × SpreadsSome kind answers (IsHome (length now)) 0 s now t (flattened items)
-  spread_in_array kind answers parts spare len bits kept part offset start shift size fields below part_is offset_is s t now view
-      items left is spreads =
+      (left : List (BucketView K V)) → ((first : ℕ) → start ≡ first + offset
+      → SpreadsSome kind answers names first s (part_at parts part) t left)
+      → AreParts (set parts part left) spare len bits
+      × SpreadsSome kind answers names 0 s (flattened parts) t (flattened (set parts part left))
+  spread_in_parts kind answers names parts spare len bits kept part offset start below part_is offset_is s t left spreads =
       let there = around parts spare len bits kept part offset start below part_is offset_is in
       let (count, spread) = spreads (part * 2 ^ bits) there.first in
-      let same = spread_len kind answers (IsShifted shift) (part * 2 ^ bits) count s t (part_at parts part) left spread in
-      let whole = spread_within kind answers (IsShifted shift) there.front there.back 0 (part * 2 ^ bits) there.stands count s t
+      let same = spread_len kind answers names (part * 2 ^ bits) count s t (part_at parts part) left spread in
+      let whole = spread_within kind answers names there.front there.back 0 (part * 2 ^ bits) there.stands count s t
       (part_at parts part) left spread in
-      let long : length now ≡ 2 ^ (64 - shift) = ap length (sym view) ∙ sym kept.len_is ∙ fields.len_is in
+      let before = subst (λ cs. Spreads kind answers names 0 count s cs t (there.front ++ (left ++ there.back))) (sym there.was) whole in (
+        there.kept left same,
+        (count, subst (λ ds. Spreads kind answers names 0 count s (flattened parts) t ds) (sym (there.is left)) before),
+      )
+
+  -- the buckets that a shift by an array's offset names are homes
+  pub spread_homes : (kind : ℕ) (answers : Bor K → ℕ → Type 0) (now after : List (BucketView K V)) (shift size : ℕ)
+      → IsArray (length now) shift size → (s t : BucketView K V) → SpreadsSome kind answers (IsShifted shift) 0 s now t after
+      → SpreadsSome kind answers (IsHome (length now)) 0 s now t after × (length after ≡ length now)
+  spread_homes kind answers now after shift size fields s t (count, spread) =
       let named : (number index : ℕ) → IsShifted shift number index → IsHome (length now) number index =
       λ number index shifted.
       subst (λ i. IsHome (length now) number i) shifted.1
-      (home_by_offset number (length now) shift fields.offset_positive fields.offset_in_range long shifted.0) in
-      let all = spread_named kind answers (IsShifted shift) (IsHome (length now)) named 0 count s t _ _ whole in
-      let before = subst
-      (λ cs. Spreads kind answers (IsHome (length now)) 0 count s cs t (there.front ++ (left ++ there.back)))
-      (sym there.was ∙ view) all in
-      rw is (
-        there.kept left same,
-        (count, subst (λ ds. Spreads kind answers (IsHome (length now)) 0 count s now t ds) (sym (there.is left)) before),
+      (home_by_offset number (length now) shift fields.offset_positive fields.offset_in_range fields.len_is shifted.0) in (
+        (count, spread_named kind answers (IsShifted shift) (IsHome (length now)) named 0 count s t now after spread),
+        spread_len kind answers (IsShifted shift) 0 count s t now after spread,
       )
 
   -- of two lists with one front its elements are alike

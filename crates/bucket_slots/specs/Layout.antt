@@ -15,5 +15,6 @@ pub mod ArrayFields
 pub mod ArrayParts
 pub mod Digests
 pub mod PartLoans
+pub mod BucketsLoans
 pub mod TargetLoans
 pub mod OwnSpreading

@@ -2,9 +2,8 @@
 //!
 //! Model: the list of the buckets, in the order of the intervals of hashes that they are home to.
 //! Invariant (`IsArray`): the length is a power of two from 2 to 2^57, the stored offset shifts a
-//! hash to the index of its home, and the stored sample size is that of the length. The buckets are
-//! in parts of equal length, beside a spare empty bucket and a spare killed one (`AreParts`). Each
-//! digest that isn't lost is its bucket's (`AreDigests`).
+//! hash to the index of its home, and the stored sample size is that of the length. Each digest
+//! that isn't lost is its bucket's (`AreDigests`).
 //!
 //! Ports scc's `src/hash_table/bucket_array.rs`. The buckets are in vectors whose memory is
 //! allocated at once, and a bucket is made when it is first lent for writing. scc allocates zeroed
@@ -22,23 +21,20 @@ ghost use Rattle.bucket_slots.specs.Sizing.{IsLength, IsOptimalCapacity};
 ghost use Rattle.bucket_slots.specs.Sizing.{IsPowerIn, IsTooEmpty, IsTooFull};
 ghost use Rattle.bucket_slots.specs.Slots.{places_of};
 
+mod buckets;
 mod digested;
 mod digests;
-mod known;
 mod moving;
 mod part;
-mod parts;
 mod sizing;
 mod walking;
 mod writing;
 
-use crate::bucket::room::fits_in_memory;
 use crate::bucket::{BUCKET_LEN, Bucket};
 use crate::data_block::DataBlock;
 use crate::lru::LruList;
+use buckets::Buckets;
 use digests::Digests;
-use part::{Part, spare_buckets};
-use parts::{bucket_in, place_in};
 use sizing::MINIMUM_CAPACITY;
 pub use sizing::{MAXIMUM_SLOTS, full_sample_size_of, large_sample_size_of, small_sample_size_of};
 use std::alloc::{AllocError, Global};
@@ -46,52 +42,26 @@ use std::marker::Model;
 pub use writing::NotPut;
 
 /// Buckets of the kind `TYPE` with LRU lists `L`, each the home of an interval of hashes.
+#[derive(Drop)]
 pub struct BucketArray<K, V, L: LruList, const TYPE: u8> {
     hash_offset: u32,
     sample_size: u8,
-    part_bits: u32,
-    part_mask: usize,
-    len: usize,
-    parts: Vec<Part<K, V, L, TYPE>>,
-    spare: Vec<Bucket<K, V, L, TYPE>>,
+    buckets: Buckets<K, V, L, TYPE>,
     digests: Digests,
 }
 
 impl<K, V, L: LruList, const TYPE: u8> Model for BucketArray<K, V, L, TYPE> {
-    ghost use Rattle.std.specs.Prelude.{List};
-    ghost use Rattle.bucket_slots.specs.BucketView.{BucketView, flattened};
+    ghost use Rattle.std.specs.Prelude.{List, length};
+    ghost use Rattle.bucket_slots.specs.BucketView.{BucketView};
     ghost use Rattle.bucket_slots.specs.Layout.ArrayFields.{IsArray};
-    ghost use Rattle.bucket_slots.specs.Layout.ArrayParts.{AreParts};
     ghost use Rattle.bucket_slots.specs.Layout.Digests.{AreDigests};
-    ghost use Rattle.std.specs.Prelude.{◌≡◌, ◌^◌, ◌-◌};
 
     ghost Value = { List (BucketView K V) };
 
-    ghost view = { λ array. flattened array.parts.items };
+    ghost view = { λ array. array.buckets };
 
-    ghost invariant = { λ array. IsArray array.len array.hash_offset array.sample_size
-        × AreParts array.parts.items array.spare.items array.len array.part_bits
-        × (array.part_mask ≡ 2 ^ array.part_bits - 1)
-        × AreDigests array.digests (flattened array.parts.items) };
-}
-
-/// The slice of the spare buckets states that a bucket fits in memory.
-impl<K: Drop, V: Drop, L: LruList + Drop, const TYPE: u8> Drop for BucketArray<K, V, L, TYPE> {
-    fn drop(self) {
-        let BucketArray {
-            hash_offset: _,
-            sample_size: _,
-            part_bits: _,
-            part_mask: _,
-            len: _,
-            parts,
-            spare,
-            digests: _,
-        } = self;
-        drop(parts);
-        let _ = spare.as_slice();
-        drop(spare);
-    }
+    ghost invariant = { λ array. IsArray (length array.buckets) array.hash_offset array.sample_size
+        × AreDigests array.digests array.buckets };
 }
 
 impl<K: Drop, V: Drop, L: LruList + Drop, const TYPE: u8> BucketArray<K, V, L, TYPE> {
@@ -109,22 +79,12 @@ impl<K: Drop, V: Drop, L: LruList + Drop, const TYPE: u8> BucketArray<K, V, L, T
     pub fn alloc(alloc: Global, capacity: usize) -> Result<Self, AllocError>
         ensures { IfOk result (IsNewArray capacity) }
     {
-        if !fits_in_memory::<Bucket<K, V, L, TYPE>>() {
-            return Err(AllocError);
-        }
         let len = sizing::len_for(capacity);
-        let (count, part_bits) = sizing::parts_for(len);
-        let part_len: usize = 1 << part_bits;
-        let parts = Part::alloc_all(alloc, count, part_len)?;
-        let spare = spare_buckets(alloc)?;
+        let buckets = Buckets::alloc(alloc, len)?;
         Ok(BucketArray {
             hash_offset: 64 - len.ilog2(),
             sample_size: large_sample_size_of(len) as u8,
-            part_bits,
-            part_mask: part_len - 1,
-            len,
-            parts,
-            spare,
+            buckets,
             digests: Digests::none(alloc),
         })
     }
@@ -141,7 +101,7 @@ impl<K, V, L: LruList, const TYPE: u8> BucketArray<K, V, L, TYPE> {
         ensures value { result ≡ length self.now }
         ensures length { IsLength result }
     {
-        self.len
+        self.buckets.len()
     }
 
     /// Returns the number of own slots of all buckets.
@@ -150,7 +110,7 @@ impl<K, V, L: LruList, const TYPE: u8> BucketArray<K, V, L, TYPE> {
     pub fn num_slots(&self) -> usize
         ensures { result ≡ BUCKET_LEN * length self.now }
     {
-        self.len * BUCKET_LEN
+        self.buckets.len() * BUCKET_LEN
     }
 
     /// Returns the index of a hash's home: the hash's upper bits.
@@ -179,7 +139,7 @@ impl<K, V, L: LruList, const TYPE: u8> BucketArray<K, V, L, TYPE> {
     pub fn small_sample_size(&self) -> usize
         ensures { IsSmallSample (length self.now) result }
     {
-        small_sample_size_of(self.len)
+        small_sample_size_of(self.buckets.len())
     }
 
     /// Returns how many buckets an accurate estimate of the number of entries looks at.
@@ -198,7 +158,7 @@ impl<K, V, L: LruList, const TYPE: u8> BucketArray<K, V, L, TYPE> {
     pub fn full_sample_size(&self) -> usize
         ensures { result ≡ full_sample (length self.now) }
     {
-        full_sample_size_of(self.len)
+        full_sample_size_of(self.buckets.len())
     }
 
     /// Returns the bucket with an index.
@@ -209,9 +169,7 @@ impl<K, V, L: LruList, const TYPE: u8> BucketArray<K, V, L, TYPE> {
         requires { index < length self.now }
         ensures { result.now ≡ bucket_at self.now index }
     {
-        self.room();
-        let (part, offset) = sizing::place_of(index, self.part_bits, self.part_mask);
-        self.parts[part].bucket(offset, &self.spare)
+        self.buckets.get(index)
     }
 
     /// Lends the bucket with an index for writing. No other bucket changes.
@@ -226,18 +184,8 @@ impl<K, V, L: LruList, const TYPE: u8> BucketArray<K, V, L, TYPE> {
             self.entry index result) }
         ensures bucket { result.now ≡ bucket_at self.old index }
     {
-        self.room();
-        sizing::below(index, self.len);
-        let (part, offset) = place_in(
-            &self.parts,
-            &self.spare,
-            self.len,
-            self.part_bits,
-            self.part_mask,
-            index,
-        );
         self.digests.lose(index);
-        bucket_in(&mut self.parts, part, offset)
+        self.buckets.get_mut(index)
     }
 
     /// Returns the pairs of the own slots of the bucket with an index, including those of
@@ -307,6 +255,6 @@ impl<K, V, L: LruList, const TYPE: u8> BucketArray<K, V, L, TYPE> {
             (record { KEEPS = L.KEEPS; listed = L.listed; IsTail = L.IsTail }) L.Default }
         ensures length { IsLength (length self.now) }
     {
-        let _ = self.spare.as_slice();
+        self.buckets.room();
     }
 }

@@ -15,10 +15,10 @@ pub mod PutSlots
 pub mod Putting
 pub mod AfterSearch
 pub mod Finding
-pub mod FindingGrown
 pub mod Preparing
 pub mod SlotSteps
 pub mod Replacing
 pub mod TakingOn
 pub mod CountSteps
 pub mod Counted
+pub mod Rests

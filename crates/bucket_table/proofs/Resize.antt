@@ -15,3 +15,4 @@ pub mod ByAge
 pub mod PouringOne
 pub mod Renewing
 pub mod Splitting
+pub mod Sparse

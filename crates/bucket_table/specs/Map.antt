@@ -7,7 +7,7 @@ pub mod Replacing
 pub mod Lending
 pub mod Counting
 pub mod Finding
-pub mod FindingGrown
+pub mod Splitting
 pub mod Preparing
 pub mod Refusing
 pub mod Refusals

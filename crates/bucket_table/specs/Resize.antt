@@ -5,6 +5,7 @@ pub mod Resizing
 pub mod Asking
 pub mod Growing
 pub mod Overfull
+pub mod Sparse
 pub mod TableCapacity
 pub mod Remaking
 pub mod Renewing

@@ -36,7 +36,7 @@ use crate::tickets::Tickets;
 use bucket_slots::bucket_array::BucketArray;
 use bucket_slots::lru::LruList;
 pub use by_use::PairsByUse;
-pub(crate) use counting::{ok_len, put_len, some_len};
+pub(crate) use counting::{put_len, some_len};
 pub use draining::TableDrain;
 pub use extracting::TableExtract;
 pub use lookup::{Spot, peek_arrays};

@@ -46,6 +46,7 @@ pub use crate::capacity::{
     table_capacity_from_num_entries,
 };
 pub use crate::key_hash::{KeyHash, StdHash};
+use crate::pair_count::PairCount;
 pub use crate::tickets::{REF_COUNT_BITS, REHASHING_UNIT_LEN, TicketError};
 use bucket_slots::bucket::BUCKET_LEN;
 use bucket_slots::bucket_array::BucketArray;
@@ -80,6 +81,18 @@ pub enum Vacancy {
     NoMemory,
 }
 
+/// When an insertion adds slots, and when a removal frees some. Own.
+#[derive(Clone, Copy, Debug, Drop)]
+pub enum ResizeRule {
+    /// If the samples of a resize ask for it, as in scc.
+    Sampled,
+    /// By the number of pairs too. Keys that come in the order of their hashes all go to a few
+    /// buckets, which no sample may see, so an insertion also doubles the slots for an overfull
+    /// home, as `HashTable::grow_if_overfull` says. A removal frees slots only if the pairs that
+    /// are left are less than an eighth of them too, and leaves at least two for each pair.
+    Counted,
+}
+
 /// A map from keys to values, in one array or two.
 ///
 /// A unit is 64 buckets of the old array. A call that works a unit first moves the pairs of the
@@ -89,7 +102,7 @@ pub enum Vacancy {
 /// the call finds them too.
 ///
 /// One unit is worked by each call by key or by a probe that borrows the table mutably, except
-/// `put_vacant`, and by `reader_sync`, `fetch_home`, `find`, `find_or_grow`, `writer_sync`,
+/// `put_vacant`, and by `reader_sync`, `fetch_home`, `find`, `writer_sync`,
 /// `try_reserve_bucket`, `optional_writer_sync`, `num_entries` and `has_entry`. Walks and cursors
 /// work one before each bucket, and move the pairs of the bucket's sources. `finish_rehash` works
 /// all units. In costs, `unit` stands for the slots of the unit, of the sources and of their
@@ -98,7 +111,7 @@ pub enum Vacancy {
 pub struct HashTable<K: Eq, V, H: KeyHash<K>, L: LruList, const TYPE: u8> {
     pub(crate) hasher: H,
     pub(crate) arrays: Arrays<K, V, L, TYPE>,
-    pub(crate) count: usize,
+    pub(crate) count: PairCount,
 }
 
 impl<K: Eq, V, H: KeyHash<K>, L: LruList, const TYPE: u8> Model for HashTable<K, V, H, L, TYPE> {
@@ -134,7 +147,7 @@ impl<K: Eq, V, H: KeyHash<K>, L: LruList, const TYPE: u8> HashTable<K, V, H, L, 
         HashTable {
             hasher,
             arrays: Arrays::new(alloc, minimum, maximum),
-            count: 0,
+            count: PairCount::new(0),
         }
     }
 

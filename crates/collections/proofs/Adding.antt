@@ -15,8 +15,9 @@ use Rattle.bucket_slots.specs.Slots.{Slot, live, live_pair}
 use Rattle.bucket_table.specs.Views.ArraysView.{ArePlaced, TableView, pairs_of}
 use Rattle.bucket_table.specs.Views.Sides.{bucket_on, with_bucket}
 use Rattle.bucket_table.specs.declared.arrays.side.Side.{Side}
+use Rattle.bucket_table.specs.declared.hash_table.ResizeRule.TheVariants.{Counted}
 use Rattle.bucket_table.specs.Map.ByKey.{HasNoSlot}
-use Rattle.bucket_table.specs.Map.FindingGrown.{FindsOrGrows, FindsRoom}
+use Rattle.bucket_table.specs.Map.Finding.{Finds, FindsBucket}
 use Rattle.bucket_table.specs.Map.Lending.{with_value}
 use Rattle.bucket_table.specs.Map.LookingUp.{IsAbsent}
 use Rattle.bucket_table.specs.Map.MapState.{AddsPair, ChangesValue, KeepsPairs, MapState, state_of}
@@ -57,7 +58,7 @@ module _ {K V : Type 0} (eq : K → K → Bool) (laws : IsEquivalence eq) where
 
 -- what a look-up doesn't find isn't there where a bucket was found for it either
 pub found_absent : {K V H E : Type 0} (eq : K → K → Bool) (laws : IsEquivalence eq) (key : K) (hash : ℕ) (old new : TableView K V H)
-    (answer : Result (Side × ℕ) E) → lookup (eq key) (pairs_of old.arrays) ≡ None → FindsOrGrows 83 hash old answer new
+    (answer : Result (Side × ℕ) E) → lookup (eq key) (pairs_of old.arrays) ≡ None → Finds Counted 83 hash old answer new
     → OnOk answer (IsAbsent (λ own. eq own key) (pairs_of new.arrays))
 found_absent eq laws key hash old new (Ok found) none finds =
     absent_permuted eq laws key (pairs_of old.arrays) (pairs_of new.arrays) none finds.map.pairs
@@ -65,7 +66,7 @@ found_absent eq laws key hash old new (Err refused) none finds = tt
 
 -- and the hasher stays, whether one was found or not
 pub found_hasher : {K V H E : Type 0} (hash : ℕ) (old new : TableView K V H) (answer : Result (Side × ℕ) E)
-    → FindsOrGrows 83 hash old answer new → old.hasher ≡ new.hasher
+    → Finds Counted 83 hash old answer new → old.hasher ≡ new.hasher
 found_hasher hash old new (Ok found) finds = sym (ap (λ others. others.hasher) finds.map.others)
 found_hasher hash old new (Err refused) finds = sym (ap (λ others. others.hasher) finds.prepared.map.others)
 
@@ -130,14 +131,14 @@ module _ {K V H : Type 0} (eq : K → K → Bool) (laws : IsEquivalence eq) (kin
 pub added_lent_grows : {K V H : Type 0} (hash_of : H → K → ℕ) (key : K) (t between added : TableView K V H)
     → ArePlaced (hash_of added.hasher) added.arrays → (0 < length added.arrays.linked → 0 < length added.arrays.current)
     → (keeps : ℕ → Bool) (v w : V) (side : Side) (index byte hash : ℕ) (at : Place) → hash ≡ hash_of t.hasher key
-    → FindsRoom 83 hash t side index between → AddsPair (state_of 83 between) (key, v) (state_of 83 added)
+    → FindsBucket Counted 83 hash t side index between → AddsPair (state_of 83 between) (key, v) (state_of 83 added)
     → added ≡ with_bucket between side index (slots_after_insertion 83 keeps (bucket_on between.arrays side index) (key, v) byte)
     → GrowsSlots hash_of key (map_of t) (map_of (with_value added side index at w))
 added_lent_grows {K} {V} {H} hash_of key t between added placed beside keeps v w side index byte hash at own finds puts is =
     let same = sym (ap (λ z. z.hasher) puts.others ∙ ap (λ z. z.hasher) finds.map.others) in
     let pairs = IsPermutation-trans _ _ _ (IsPermutation-cons (key, v) (pairs_of t.arrays) (pairs_of between.arrays) finds.map.pairs)
     puts.pairs in
-    let there = subst (λ (h : ℕ). FindsRoom 83 h t side index between) own finds in
+    let there = subst (λ (h : ℕ). FindsBucket Counted 83 h t side index between) own finds in
     let grows = added_grows hash_of key t added placed beside 83 keeps v between side index byte there same pairs is in
     let long = as_long_with added.arrays side index (bucket_with_value (bucket_on added.arrays side index) at w) in
     grows_as hash_of key (map_of t) (map_of added) (map_of (with_value added side index at w))
@@ -146,7 +147,7 @@ added_lent_grows {K} {V} {H} hash_of key t between added placed beside keeps v w
 -- the bucket that was found has no free slot
 pub full_grows : {K V H : Type 0} (hash_of : H → K → ℕ) (key : K) (t s : TableView K V H) → ArePlaced (hash_of s.hasher) s.arrays
     → (0 < length s.arrays.linked → 0 < length s.arrays.current) → (side : Side) (index hash : ℕ) → hash ≡ hash_of t.hasher key
-    → FindsRoom 83 hash t side index s → GrowsSlots hash_of key (map_of t) (map_of s)
+    → FindsBucket Counted 83 hash t side index s → GrowsSlots hash_of key (map_of t) (map_of s)
 full_grows {K} {V} {H} hash_of key t s placed beside side index hash own finds =
     kept_grows hash_of key t s placed beside 83 (Ok (side, index)) s
-    (subst (λ (h : ℕ). FindsRoom 83 h t side index s) own finds) finds.map refl
+    (subst (λ (h : ℕ). FindsBucket Counted 83 h t side index s) own finds) finds.map refl

@@ -17,8 +17,7 @@ use Rattle.bucket_slots.specs.Homes.{IsHome, Meets}
 use Rattle.bucket_slots.specs.Slots.{Slot, free, free_len, is_free, is_live, is_marked, live, live_pairs, marked, marked_len}
 use Rattle.bucket_slots.proofs.CallerLemmas.{free_len_in-none, homes_meet, length-entries_in, length-live_pairs, one_source, scales, tally}
 use Rattle.bucket_table.specs.Map.ByKey.{HasNoSlot, Inserts, InsertsAt, Upserts, UpsertsAt}
-use Rattle.bucket_table.specs.Map.Finding.{Finds, FindsThen, MakesReady}
-use Rattle.bucket_table.specs.Map.FindingGrown.{FindsOrGrows, FindsOrGrowsThen, FindsRoom, ReadiesOrGrows}
+use Rattle.bucket_table.specs.Map.Finding.{Finds, FindsBucket, FindsThen, MakesReady, ReadiesOrGrows}
 use Rattle.bucket_table.specs.Map.MapState.{KeepsPairs, state_of}
 use Rattle.bucket_table.specs.Map.Preparing.{HomeWantsMemory}
 use Rattle.bucket_table.specs.Map.Putting.{Puts, PutsAt}
@@ -28,6 +27,8 @@ use Rattle.bucket_table.specs.Views.ArraysView.{ArePlaced, ArraysView, TableView
 use Rattle.bucket_table.specs.Views.Sides.{arrays_with, bucket_on, buckets_on}
 use Rattle.bucket_table.specs.declared.arrays.side.Side.{Side}
 use Rattle.bucket_table.specs.declared.arrays.side.Side.TheVariants.{Current, Old}
+use Rattle.bucket_table.specs.declared.hash_table.ResizeRule.{ResizeRule}
+use Rattle.bucket_table.specs.declared.hash_table.ResizeRule.TheVariants.{Counted, Sampled}
 use Rattle.bucket_table.specs.declared.hash_table.NotInserted.{NotInserted}
 use Rattle.bucket_table.specs.declared.hash_table.NotInserted.TheVariants.{Memory}
 use Rattle.bucket_table.proofs.CallerLemmas.{hasher_kept, home_of-interval, homed-permutation, homed_here, homes_on, pairs_exchanged}
@@ -113,10 +114,10 @@ ready_len {K} {V} old index ready makes stands = elim (cases_lt 0 (length old.li
 ]
 
 -- and so has the array in which a bucket was found for a writer
-pub found_len : {K V : Type 0} (kind hash : ℕ) (old : ArraysView K V) (side : Side) (index : ℕ) (new : ArraysView K V)
-    → ReadiesOrGrows kind hash old side index new → 0 < length old.current → length (buckets_on new side) ≡ length old.current
-found_len kind hash old side index new readies stands =
-    let is = found kind hash old side index new readies in
+pub found_len : {K V : Type 0} (rule : ResizeRule) (kind hash : ℕ) (old : ArraysView K V) (side : Side) (index : ℕ) (new : ArraysView K V)
+    → ReadiesOrGrows rule kind hash old side index new → 0 < length old.current → length (buckets_on new side) ≡ length old.current
+found_len rule kind hash old side index new readies stands =
+    let is = found rule kind hash old side index new readies in
     ap length (same_buckets side is.ready new is.grown) ∙ ready_len old index is.ready is.makes stands
 
 module _ {K V H : Type 0} (kind : ℕ) (hash_of : H → K → ℕ) (key : K) (n : ℕ) (old new : TableView K V H) (own : n ≡ hash_of new.hasher key)
@@ -164,13 +165,13 @@ module _ {K V H : Type 0} (kind : ℕ) (hash_of : H → K → ℕ) (key : K) (n 
       subst (λ (i : ℕ). IsBucketOf kind (bucket_at new.arrays.linked i)) (home.the_one kept.index kept.home.own) kept.laws
 
   -- a bucket that was found had no free slot
-  pub found_full : kind ≢ INDEX → (side : Side) (index : ℕ) → FindsRoom kind n old side index new
+  pub found_full : {rule : ResizeRule} → kind ≢ INDEX → (side : Side) (index : ℕ) → FindsBucket rule kind n old side index new
       → first_place is_free (bucket_on new.arrays side index) ≡ None → LacksRoom hash_of key (map_of old)
   unfolding LacksRoom
-  found_full other side index found none = elim (cases_lt 0 (length old.arrays.current)) [
+  found_full {rule} other side index found none = elim (cases_lt 0 (length old.arrays.current)) [
     | inr empty ↦ inl (inl (inl (omega (arith, empty))))
     | inl stands ↦ inr (before_on 32 side index (length old.arrays.current) found.map
-        (found_len kind n old.arrays side index new.arrays found.found stands) found.home
+        (found_len rule kind n old.arrays side index new.arrays found.found stands) found.home
         (held kind (bucket_on new.arrays side index) other (laws_on side index found.home) none))
   ]
 
@@ -237,11 +238,11 @@ module _ {K V H : Type 0} (kind : ℕ) (hash_of : H → K → ℕ) (key : K) (n 
 -- a table in which a bucket was looked for, and that is as it was then
 module _ {K V H : Type 0} (kind : ℕ) (hash_of : H → K → ℕ) (key : K) (old between new : TableView K V H)
     (kept : KeepsPairs (state_of kind old) (state_of kind new)) (is : new ≡ between) where
-  pub found_some : (side : Side) (index : ℕ) → FindsRoom kind (hash_of old.hasher key) old side index between
-      → FindsRoom kind (hash_of new.hasher key) old side index new
-  found_some side index found =
-      subst (λ (h : H). FindsRoom kind (hash_of h key) old side index new) (sym (hasher_kept _ _ kept))
-      (subst (λ (t : TableView K V H). FindsRoom kind (hash_of old.hasher key) old side index t) (sym is) found)
+  pub found_some : {rule : ResizeRule} (side : Side) (index : ℕ) → FindsBucket rule kind (hash_of old.hasher key) old side index between
+      → FindsBucket rule kind (hash_of new.hasher key) old side index new
+  found_some {rule} side index found =
+      subst (λ (h : H). FindsBucket rule kind (hash_of h key) old side index new) (sym (hasher_kept _ _ kept))
+      (subst (λ (t : TableView K V H). FindsBucket rule kind (hash_of old.hasher key) old side index t) (sym is) found)
 
   pub found_none : IsRefused kind (hash_of old.hasher key) old between → IsRefused kind (hash_of new.hasher key) old new
   found_none refused =
@@ -252,7 +253,7 @@ module _ {K V H : Type 0} (hash_of : H → K → ℕ) (key : K) (old new : Table
     (current : 0 < length new.arrays.current → KeepsHome 67 (hash_of new.hasher key) new.arrays.current)
     (linked : 0 < length new.arrays.linked → KeepsHome 67 (hash_of new.hasher key) new.arrays.linked) (keeps : Bool) (value : V) where
   put_by : (k : K) (v : V) (answer : Result (Side × ℕ) (Unit {0})) (between : TableView K V H)
-      → KeepsPairs (state_of 67 old) (state_of 67 new) → Finds 67 (hash_of old.hasher key) old answer between
+      → KeepsPairs (state_of 67 old) (state_of 67 new) → Finds Sampled 67 (hash_of old.hasher key) old answer between
       → PutsAt keeps (key, value) (hash_of old.hasher key % 256) between (Err (Memory k v)) answer new
       → LacksBucket hash_of key (map_of old)
   put_by k v (Ok at) between kept found none = absurd none
@@ -262,7 +263,7 @@ module _ {K V H : Type 0} (hash_of : H → K → ℕ) (key : K) (old new : Table
   -- a pair that a cache didn't take for want of memory
   pub put_lacks : (eq : K → K → Bool) (result : Result (Option (K × V)) (NotInserted K V)) (k : K) (v : V)
       → Puts eq key value (state_of 67 old) result (state_of 67 new)
-      → FindsThen 67 (hash_of old.hasher key) old
+      → FindsThen Sampled 67 (hash_of old.hasher key) old
       (λ answer between. PutsAt keeps (key, value) (hash_of old.hasher key % 256) between result answer new)
       → result ≡ Err (Memory k v) → LacksBucket hash_of key (map_of old)
   put_lacks eq result k v map finds is =
@@ -276,7 +277,7 @@ module _ {K V H : Type 0} (hash_of : H → K → ℕ) (key : K) (old new : Table
     (current : 0 < length new.arrays.current → KeepsHome 83 (hash_of new.hasher key) new.arrays.current)
     (linked : 0 < length new.arrays.linked → KeepsHome 83 (hash_of new.hasher key) new.arrays.linked) (keeps : ℕ → Bool) where
   refused_by : (answer : Result (Side × ℕ) (Unit {0})) (between : TableView K V H) → KeepsPairs (state_of 83 old) (state_of 83 new)
-      → FindsOrGrows 83 (hash_of old.hasher key) old answer between → new ≡ between
+      → Finds Counted 83 (hash_of old.hasher key) old answer between → new ≡ between
       → IfOk answer (λ at. HasNoSlot 83 keeps (bucket_on between.arrays at.0 at.1)) → LacksRoom hash_of key (map_of old)
   refused_by (Ok at) between kept finds is none =
       found_full 83 hash_of key (hash_of new.hasher key) old new refl placed current linked (λ e. omega arith) at.0 at.1
@@ -288,7 +289,7 @@ module _ {K V H : Type 0} (hash_of : H → K → ℕ) (key : K) (old new : Table
 
   module _ (value : V) where
     inserted_by : (A : Type 0) (k : K) (v : V) (answer : Result (Side × ℕ) (Unit {0})) (between : TableView K V H)
-        → KeepsPairs (state_of 83 old) (state_of 83 new) → FindsOrGrows 83 (hash_of old.hasher key) old answer between
+        → KeepsPairs (state_of 83 old) (state_of 83 new) → Finds Counted 83 (hash_of old.hasher key) old answer between
         → InsertsAt {A = A} 83 keeps (key, value) (hash_of old.hasher key % 256) between (Err (Memory k v)) answer new
         → LacksRoom hash_of key (map_of old)
     inserted_by A k v (Ok at) between kept found done = refused_by (Ok at) between kept found done.1 done.0
@@ -297,7 +298,7 @@ module _ {K V H : Type 0} (hash_of : H → K → ℕ) (key : K) (old new : Table
     -- a pair that came back from an insertion
     pub insertion_lacks : {A : Type 0} (eq : K → K → Bool) (result : Result A (NotInserted K V)) (k : K) (v : V)
         → Inserts eq key value (state_of 83 old) result (state_of 83 new)
-        → FindsOrGrowsThen 83 (hash_of old.hasher key) old
+        → FindsThen Counted 83 (hash_of old.hasher key) old
         (λ answer between. InsertsAt 83 keeps (key, value) (hash_of old.hasher key % 256) between result answer new)
         → result ≡ Err (Memory k v) → LacksRoom hash_of key (map_of old)
     insertion_lacks {A} eq result k v map finds is =
@@ -307,14 +308,14 @@ module _ {K V H : Type 0} (hash_of : H → K → ℕ) (key : K) (old new : Table
         InsertsAt 83 keeps (key, value) (hash_of old.hasher key % 256) finds.between r finds.answer new) is finds.done)
 
     upserted_by : (eq : K → K → Bool) (back : K × V) (answer : Result (Side × ℕ) (Unit {0})) (between : TableView K V H)
-        → KeepsPairs (state_of 83 old) (state_of 83 new) → FindsOrGrows 83 (hash_of old.hasher key) old answer between
+        → KeepsPairs (state_of 83 old) (state_of 83 new) → Finds Counted 83 (hash_of old.hasher key) old answer between
         → UpsertsAt eq 83 keeps key value (hash_of old.hasher key % 256) between (Err back) answer new → LacksRoom hash_of key (map_of old)
     upserted_by eq back (Ok at) between kept found done = refused_by (Ok at) between kept found done.1 done.0
     upserted_by eq back (Err e) between kept found done = refused_by (Err e) between kept found done tt
 
     -- and from one that would have written its value beside an equal key
     pub upsertion_lacks : (eq : K → K → Bool) (back : K × V) → Upserts eq key value (state_of 83 old) (Err back) (state_of 83 new)
-        → FindsOrGrowsThen 83 (hash_of old.hasher key) old
+        → FindsThen Counted 83 (hash_of old.hasher key) old
         (λ answer between. UpsertsAt eq 83 keeps key value (hash_of old.hasher key % 256) between (Err back) answer new)
         → LacksRoom hash_of key (map_of old)
     upsertion_lacks eq back map finds = upserted_by eq back finds.answer finds.between map.2 finds.found finds.done

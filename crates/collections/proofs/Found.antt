@@ -1,10 +1,10 @@
 -- What the arrays are where a bucket was found for a writer: they were made ready, and may have grown then.
 use Rattle.bucket_table.specs.declared.arrays.side.Side.{Side}
 use Rattle.bucket_table.specs.declared.arrays.side.Side.TheVariants.{Current, Old}
+use Rattle.bucket_table.specs.declared.hash_table.ResizeRule.{ResizeRule}
 use Rattle.std.proofs.Common.{ℕ, ◌≡◌, ◌*◌, inl, inr, length, refl, subst, sym, arith}
 use Rattle.std.proofs.lemmas.Bool.{cases_lt}
-use Rattle.bucket_table.specs.Map.Finding.{MakesReady, ReadiesThenGrows}
-use Rattle.bucket_table.specs.Map.FindingGrown.{ReadiesOrGrows}
+use Rattle.bucket_table.specs.Map.Finding.{MakesReady, ReadiesOrGrows, ReadiesThenGrows}
 use Rattle.bucket_table.specs.Resize.Growing.{Grows}
 use Rattle.bucket_table.specs.Resize.Overfull.{GrowsOverfull}
 use Rattle.bucket_table.specs.Views.ArraysView.{ArraysView}
@@ -29,11 +29,11 @@ module _ {K V : Type 0} where
         killed = λ i below source. absurd (omega (arith, below, alone));
       }
 
-  pub found : (kind hash : ℕ) (old : ArraysView K V) (side : Side) (index : ℕ) (new : ArraysView K V)
-      → ReadiesOrGrows kind hash old side index new → IsFound old side index new
-  unfolding ReadiesThenGrows
-  found kind hash old side index new (inl readies) = record { ready = readies.0; makes = readies.1; grown = readies.3 }
-  found kind hash old side index new (inr (on, grows)) = record {
+  pub found : (rule : ResizeRule) (kind hash : ℕ) (old : ArraysView K V) (side : Side) (index : ℕ) (new : ArraysView K V)
+      → ReadiesOrGrows rule kind hash old side index new → IsFound old side index new
+  unfolding ReadiesOrGrows ReadiesThenGrows
+  found rule kind hash old side index new (inl readies) = record { ready = readies.0; makes = readies.1; grown = readies.3 }
+  found rule kind hash old side index new (inr (overfull, on, grows)) = record {
     ready = old;
     makes = overfull_ready hash index old new grows;
     grown = subst (λ (s : Side). Grows s old new) (sym on) (64 * length old.current, grows.pushed);

@@ -11,10 +11,11 @@ use Rattle.bucket_slots.specs.Homes.{IsHome}
 use Rattle.bucket_slots.specs.Slots.{Slot, free, free_len, is_free, live, live_pairs, marked}
 use Rattle.bucket_slots.proofs.CallerLemmas.{free_len_in-none, length-live_pairs-append, tally}
 use Rattle.bucket_table.specs.Map.ByKey.{HasNoSlot, Inserts, InsertsAt}
-use Rattle.bucket_table.specs.Map.FindingGrown.{FindsOrGrows, FindsOrGrowsThen}
+use Rattle.bucket_table.specs.Map.Finding.{Finds, FindsThen}
 use Rattle.bucket_table.specs.Map.MapState.{KeepsPairs, state_of}
 use Rattle.bucket_table.specs.Views.ArraysView.{ArePlaced, TableView}
 use Rattle.bucket_table.specs.Views.Sides.{bucket_on, buckets_on}
+use Rattle.bucket_table.specs.declared.hash_table.ResizeRule.TheVariants.{Counted}
 use Rattle.bucket_table.specs.declared.arrays.side.Side.{Side}
 use Rattle.bucket_table.proofs.CallerLemmas.{hasher_kept}
 use Rattle.bucket_table.specs.declared.hash_table.NotInserted.{NotInserted}
@@ -83,7 +84,7 @@ module _ {K V H : Type 0} (hash_of : H → K → ℕ) (key : K) (old new : Table
     (current : 0 < length new.arrays.current → KeepsHome 79 (hash_of new.hasher key) new.arrays.current)
     (linked : 0 < length new.arrays.linked → KeepsHome 79 (hash_of new.hasher key) new.arrays.linked) (value : V) where
   inserted_by : (A : Type 0) (k : K) (v : V) (answer : Result (Side × ℕ) (Unit {0})) (between : TableView K V H)
-      → KeepsPairs (state_of 79 old) (state_of 79 new) → FindsOrGrows 79 (hash_of old.hasher key) old answer between
+      → KeepsPairs (state_of 79 old) (state_of 79 new) → Finds Counted 79 (hash_of old.hasher key) old answer between
       → InsertsAt {A = A} 79 none_kept (key, value) (hash_of old.hasher key % 256) between (Err (Memory k v)) answer new
       → LacksSlots hash_of key old new
   unfolding LacksSlots
@@ -96,7 +97,7 @@ module _ {K V H : Type 0} (hash_of : H → K → ℕ) (key : K) (old new : Table
         (subst (λ (t : TableView K V H). HasNoSlot 79 none_kept (bucket_on t.arrays at.0 at.1)) (sym done.1) done.0) in
         inr (
           at.0,
-          found_len 79 (hash_of new.hasher key) old.arrays at.0 at.1 new.arrays found.found stands,
+          found_len Counted 79 (hash_of new.hasher key) old.arrays at.0 at.1 new.arrays found.found stands,
           record {
             index = at.1;
             home = subst (λ (h : H). IsHome (length (buckets_on new.arrays at.0)) (hash_of h key) at.1) (hasher_kept _ _ holds) found.home;
@@ -111,7 +112,7 @@ module _ {K V H : Type 0} (hash_of : H → K → ℕ) (key : K) (old new : Table
   -- a pair that came back from an insertion for want of memory
   pub index_lacks : {A : Type 0} (eq : K → K → Bool) (result : Result A (NotInserted K V)) (k : K) (v : V)
       → Inserts eq key value (state_of 79 old) result (state_of 79 new)
-      → FindsOrGrowsThen 79 (hash_of old.hasher key) old
+      → FindsThen Counted 79 (hash_of old.hasher key) old
       (λ answer between. InsertsAt 79 none_kept (key, value) (hash_of old.hasher key % 256) between result answer new)
       → result ≡ Err (Memory k v) → LacksSlots hash_of key old new
   index_lacks {A} eq result k v map finds is =

@@ -36,3 +36,4 @@ pub mod InPlace
 pub mod EntryLoans
 pub mod SetClones
 pub mod Buckets
+pub mod Hints

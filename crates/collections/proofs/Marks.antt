@@ -9,7 +9,8 @@ use Rattle.bucket_table.specs.Views.ArraysView.{ArraysView, TableView, marks_of}
 use Rattle.bucket_table.specs.Views.Sides.{arrays_with, bucket_on}
 use Rattle.bucket_table.specs.Rehash.Relocation.{marks_among}
 use Rattle.bucket_table.specs.Map.ByKey.{InsertsAt}
-use Rattle.bucket_table.specs.Map.FindingGrown.{FindsOrGrows, FindsOrGrowsThen}
+use Rattle.bucket_table.specs.Map.Finding.{Finds, FindsThen}
+use Rattle.bucket_table.specs.declared.hash_table.ResizeRule.TheVariants.{Counted}
 use Rattle.bucket_table.specs.declared.hash_table.NotInserted.{NotInserted}
 use Rattle.bucket_table.specs.declared.hash_table.NotInserted.TheVariants.{Memory, Present}
 use Rattle.bucket_table.proofs.CallerLemmas.{marks_among-set}
@@ -43,7 +44,7 @@ module _ {K V : Type 0} where
   no_new-arrays old new same = no_new-same (marks_of old) (marks_of new) (ap (λ (arrays : ArraysView K V). marks_of arrays) same)
 
 module _ {K V H : Type 0} (kind hash : ℕ) (old new : TableView K V H) where
-  found : {E : Type 0} (answer : Result (Side × ℕ) E) → FindsOrGrows kind hash old answer new
+  found : {E : Type 0} (answer : Result (Side × ℕ) E) → Finds Counted kind hash old answer new
       → HasNoNewMark (marks_of old.arrays) (marks_of new.arrays)
   found (Ok at) finds = finds.kept.marks
   found (Err e) refused = refused.prepared.kept.keeps.marks
@@ -64,7 +65,7 @@ module _ {K V H A : Type 0} (kind : ℕ) (pair : K × V) (byte : ℕ) where
 
   -- an insertion into a table brings no mark
   pub no_new-inserted : (hash : ℕ) (old : TableView K V H) (r : Result A (NotInserted K V)) (new : TableView K V H)
-      → FindsOrGrowsThen kind hash old (λ answer between. InsertsAt kind none_kept pair byte between r answer new)
+      → FindsThen Counted kind hash old (λ answer between. InsertsAt kind none_kept pair byte between r answer new)
       → HasNoNewMark (marks_of old.arrays) (marks_of new.arrays)
   no_new-inserted hash old r new f =
       no_new-trans (marks_of old.arrays) (marks_of f.between.arrays) (marks_of new.arrays)

@@ -1,7 +1,7 @@
 -- The order of use in a cache after a put and after a removal.
 use Rattle.bucket_table.specs.declared.arrays.side.Side.{Side}
 use Rattle.bucket_table.specs.declared.arrays.side.Side.TheVariants.{Current, Old}
-use Rattle.std.proofs.Common.{ℕ, ◌≡◌, ◌<◌, ◌⊎◌, ◌%◌, inl, inr, Bool, true, false, Option, Result, Ok, Err, length, refl, ap}
+use Rattle.std.proofs.Common.{ℕ, ◌≡◌, ◌<◌, ◌⊎◌, ◌%◌, inl, inr, Bool, true, false, Option, Some, Result, Ok, Err, length, refl, ap}
 use Rattle.std.proofs.Common.{subst, arith, length-set}
 use Rattle.std.specs.Cmp.{IsEquivalence}
 use Rattle.std.specs.List.{IsDistinct}
@@ -12,13 +12,14 @@ use Rattle.bucket_slots.specs.Homes.{IsHome}
 use Rattle.bucket_slots.specs.Removing.{slots_without}
 use Rattle.bucket_table.specs.Map.ByKey.{PreparesThen, ShrinksAt}
 use Rattle.bucket_table.specs.Map.Finding.{Finds}
-use Rattle.bucket_table.specs.Map.FindingGrown.{SplitsThen}
 use Rattle.bucket_table.specs.Map.Putting.{Goes, PutsAt, slots_left, slots_put}
 use Rattle.bucket_table.specs.Map.Preparing.{IsPrepared}
+use Rattle.bucket_table.specs.Map.Splitting.{SplitsThen}
 use Rattle.bucket_table.specs.Resize.Growing.{Grows}
 use Rattle.bucket_table.specs.Resize.Resizing.{IsPushed}
 use Rattle.bucket_table.specs.Views.ArraysView.{ArraysView, TableView, pairs_of}
 use Rattle.bucket_table.specs.Views.Sides.{arrays_with, bucket_on, buckets_on}
+use Rattle.bucket_table.specs.declared.hash_table.ResizeRule.TheVariants.{Sampled}
 use Rattle.bucket_table.specs.declared.hash_table.NotInserted.{NotInserted}
 use Rattle.bucket_table.specs.declared.hash_table.NotInserted.TheVariants.{Memory, Present}
 use Rattle.bucket_table.proofs.CallerLemmas.{keeps_both, kept_none, pushed_keeps, split_old}
@@ -61,10 +62,10 @@ module _ {K V H : Type 0} (hash : ℕ) (old new : TableView K V H) where
   module _ (eq : K → K → Bool) (laws : IsEquivalence eq) (distinct : IsDistinct eq (keys_of (pairs_of old.arrays))) where
     -- what the table puts where it found a bucket
     pub puts_home : (pair : K × V) (r : Result (Option (K × V)) (NotInserted K V)) (answer : Result (Side × ℕ) (Unit {0}))
-        (between : TableView K V H) → Finds 67 hash old answer between → PutsAt true pair (hash % 256) between r answer new
+        (between : TableView K V H) → Finds Sampled 67 hash old answer between → PutsAt true pair (hash % 256) between r answer new
         → PutsOrKeeps eq pair hash old r new.arrays
     puts_home pair (Ok went) (Ok at) between finds puts =
-        let is = found 67 hash old.arrays at.0 at.1 between.arrays (inl finds.found) in
+        let is = found Sampled 67 hash old.arrays at.0 at.1 between.arrays finds.found in
         let same = same_buckets at.0 is.ready between.arrays is.grown in
         let here : bucket_on between.arrays at.0 at.1 ≡ bucket_at is.ready.current at.1 = ap (λ bs. bucket_at bs at.1) same in
         let after : BucketView K V → BucketView K V = λ bucket. slots_put true (slots_left bucket went) pair (hash % 256) in
@@ -84,7 +85,7 @@ module _ {K V H : Type 0} (hash : ℕ) (old new : TableView K V H) where
         }
     puts_home pair (Ok went) (Err e) between finds none = absurd none
     puts_home pair (Err (Present k v)) (Ok at) between finds same =
-        let is = found 67 hash old.arrays at.0 at.1 between.arrays (inl finds.found) in
+        let is = found Sampled 67 hash old.arrays at.0 at.1 between.arrays finds.found in
         rw same (found_leaves old.arrays at.0 at.1 between.arrays is)
     puts_home pair (Err (Present k v)) (Err e) between finds same = rw same (prepared_leaves between finds.prepared)
     puts_home pair (Err (Memory k v)) (Ok at) between finds none = absurd none
@@ -96,7 +97,7 @@ module _ {K V H : Type 0} (hash : ℕ) (old new : TableView K V H) where
         → PutsInHome eq pair hash went old new.arrays
     puts_split pair went x =
         let doubled = x.doubled.arrays in
-        let is = found 67 hash doubled x.side x.index x.between.arrays (inl x.found.found) in
+        let is = found Sampled 67 hash doubled x.side x.index x.between.arrays x.found.found in
         let same = same_buckets x.side is.ready x.between.arrays is.grown in
         let here : bucket_on x.between.arrays x.side x.index ≡ bucket_at is.ready.current x.index = ap (λ bs. bucket_at bs x.index) same in
         let after : BucketView K V → BucketView K V = λ bucket. slots_put true (slots_left bucket went) pair (hash % 256) in
@@ -128,9 +129,9 @@ module _ {K V H : Type 0} (hash : ℕ) (old new : TableView K V H) where
         }
 
   module _ (wants : K → Bool) where
-    left : (removed : Bool) (between : TableView K V H) → ShrinksAt wants slots_without removed between new
+    left : (pairs : ℕ) (removed : Bool) (between : TableView K V H) → ShrinksAt wants slots_without (Some pairs) removed between new
         → Leaves wants removed between.arrays new.arrays
-    left true between (side, index, at, stands, shrinks) = elim (removed_ends between.arrays side index _ new.arrays shrinks) [
+    left pairs true between (side, index, at, stands, shrinks) = elim (removed_ends pairs between.arrays side index _ new.arrays shrinks) [
       | inl is ↦ inr (side, index, at, stands, inl is)
       | inr (inl gone) ↦ inl (none_left _ new.arrays gone)
       | inr (inr (capacity, pushed)) ↦
@@ -144,15 +145,16 @@ module _ {K V H : Type 0} (hash : ℕ) (old new : TableView K V H) where
         pushed_from Old arrays index at within bucket capacity pushed =
             let none = pushed.alone in
             absurd (omega (arith, within, none, length-set arrays.linked index bucket))
-    left false between same = ap (λ (t : TableView K V H). t.arrays) same
+    left pairs false between same = ap (λ (t : TableView K V H). t.arrays) same
 
     -- what the table takes
-    pub leaves_place : (removed : Bool) → PreparesThen 67 hash old (λ between. ShrinksAt wants slots_without removed between new)
+    pub leaves_place : (pairs : ℕ) (removed : Bool)
+        → PreparesThen 67 hash old (λ between. ShrinksAt wants slots_without (Some pairs) removed between new)
         → LeavesPlace wants removed old.arrays new.arrays
-    leaves_place removed p = record {
+    leaves_place pairs removed p = record {
       between = p.between.arrays;
       carried = prepared_moves hash old p.between p.prepared;
-      left = left removed p.between p.done;
+      left = left pairs removed p.between p.done;
     }
 
 -- where nothing is removed

@@ -97,10 +97,11 @@ module _ {K V H : Type 0} (wants : K → Bool) (hash : ℕ) (old between new : T
   )
 
   -- the table's removal, that may shrink it
-  pub marks_removed : (removed : Bool) → ShrinksAt wants (λ bucket at. slots_marked bucket at 0) removed between new
+  pub marks_removed : (pairs : ℕ) (removed : Bool)
+      → ShrinksAt wants (λ bucket at. slots_marked bucket at 0) (Some pairs) removed between new
       → MarksRemoved wants removed old.arrays new.arrays
-  marks_removed false same = rw same earlier
-  marks_removed true (side, index, at, stands, shrinks) =
+  marks_removed pairs false same = rw same earlier
+  marks_removed pairs true (side, index, at, stands, shrinks) =
       let bucket = slots_marked (bucket_on between.arrays side index) at 0 in
       let mid = arrays_with between.arrays side index bucket in
       let marks = marks_of-marked between.arrays side index at 0 stands.pair stands.within stands.slot in
@@ -111,7 +112,7 @@ module _ {K V H : Type 0} (wants : K → Bool) (hash : ℕ) (old between new : T
         kept = earlier;
         marks = rw same marks;
       } in
-      elim (removed_ends between.arrays side index bucket new.arrays shrinks) [
+      elim (removed_ends pairs between.arrays side index bucket new.arrays shrinks) [
         | inl is ↦ inl (adds (ap (λ (a : ArraysView K V). marks_of a) is))
         | inr (inl gone) ↦ inr (none_left mid new.arrays gone)
         | inr (inr (capacity, pushed)) ↦ inl (adds (marks_of-pushed capacity mid new.arrays pushed))

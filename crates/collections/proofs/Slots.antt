@@ -1,6 +1,7 @@
 -- What becomes of the slots where a bucket is found for an insertion.
 use Rattle.std.proofs.Common.{ℕ, ◌≡◌, ◌<◌, ◌≤◌, ◌+◌, ◌*◌, ◌/◌, ◌%◌, Bool, true, false, Option, Some, None, Result, Ok, Err, List, ◌∷◌, ◌⊎◌}
-use Rattle.std.proofs.Common.{inl, inr}
+use Rattle.std.proofs.Common.{inl, inr, is_some, suc, ◌-◌}
+use Rattle.std.specs.Borrow.{Bor}
 use Rattle.std.proofs.Common.{length, refl, sym, subst, ap, ◌∙◌, arith, set, length-set}
 use Rattle.std.specs.List.Sorted.{IsPermutation}
 use Rattle.std.proofs.lemmas.List.Sorted.{length_permutation}
@@ -9,24 +10,26 @@ use Rattle.std.proofs.lemmas.List.{get_or-set_other, get_or-set_same, length-map
 use Rattle.bucket_slots.specs.ArrayView.{bucket_at}
 use Rattle.bucket_slots.specs.BucketView.{BucketView, Place, bucket_with_value, empty_bucket, entries_in, pairs_in, slot_in}
 use Rattle.bucket_slots.specs.Homes.{IsHome}
-use Rattle.bucket_slots.specs.Sizing.{IsLengthFor}
+use Rattle.bucket_slots.specs.Sizing.{IsLength, IsLengthFor}
 use Rattle.bucket_slots.specs.Clearing.{slots_after_insertion}
 use Rattle.bucket_slots.specs.Slots.{live_pair}
 use Rattle.bucket_slots.proofs.CallerLemmas.{entries_in-slots_after_insertion, length-entries_in, rewritten}
-use Rattle.bucket_table.specs.Map.ByKey.{ChangesAt, Inserts, InsertsAt, PreparesThen, ShrinksAt, Upserts, UpsertsAt, WritesAt}
-use Rattle.bucket_table.specs.Map.Finding.{MakesReady, ReadiesThenGrows}
-use Rattle.bucket_table.specs.Map.FindingGrown.{FindsOrGrows, FindsRoom}
+use Rattle.bucket_table.specs.Map.ByKey.{ChangesAt, Inserts, InsertsAt, Marks, PreparesThen, ShrinksAt, Takes, Upserts, UpsertsAt, WritesAt}
+use Rattle.bucket_table.specs.Map.Counting.{counted_to, pairs_left}
+use Rattle.bucket_table.specs.Map.Finding.{Finds, FindsBucket, MakesReady, ReadiesOrGrows, ReadiesThenGrows}
 use Rattle.bucket_table.specs.Map.MapState.{ChangesValue, KeepsPairs, state_of}
 use Rattle.bucket_table.specs.Map.Preparing.{IsPrepared}
 use Rattle.bucket_table.specs.Rehash.Relocation.{home_of, homed_len}
 use Rattle.bucket_table.specs.Rehash.Units.{WorksUnits}
 use Rattle.bucket_table.specs.Resize.Asking.{AsksShrinking, RemovesAndShrinks}
-use Rattle.bucket_table.specs.Resize.Resizing.{IsPushed, TriesResize}
+use Rattle.bucket_table.specs.Resize.Resizing.{IsPushed}
+use Rattle.bucket_table.specs.Resize.Sparse.{IsSparse}
 use Rattle.bucket_table.specs.Resize.Growing.{Grows}
 use Rattle.bucket_table.specs.Views.ArraysView.{ArePlaced, ArraysView, TableView, pairs_of}
 use Rattle.bucket_table.specs.Views.Sides.{arrays_with, bucket_on, buckets_on, with_bucket}
 use Rattle.bucket_table.specs.declared.arrays.side.Side.{Side}
 use Rattle.bucket_table.specs.declared.arrays.side.Side.TheVariants.{Current, Old}
+use Rattle.bucket_table.specs.declared.hash_table.ResizeRule.TheVariants.{Counted}
 use Rattle.bucket_table.specs.declared.hash_table.NotInserted.{NotInserted}
 use Rattle.bucket_table.specs.declared.hash_table.NotInserted.TheVariants.{Memory, Present}
 use Rattle.bucket_table.proofs.CallerLemmas.{hasher_kept, homed-permutation, homed_here}
@@ -35,6 +38,7 @@ use Rattle.collections.specs.Maps.{MapView, map_of}
 use Rattle.collections.specs.Slots.{ChangesSlots, GrowsSlots, KeepsSlots, LosesSlots, MakesSlots, ShrinksSlots}
 use Rattle.collections.proofs.Crowding.{at_home, ready_len}
 use Rattle.collections.proofs.Found.{overfull_ready}
+use Rattle.collections.proofs.Shrinking.{freed}
 
 module _ {K V : Type 0} where
   -- another bucket leaves as many
@@ -135,14 +139,15 @@ module _ {K V H : Type 0} (old new : TableView K V H) where
         ]
 
     -- a bucket that was found, where the pairs in it have it as their home
-    pub found_grows : (kind hash : ℕ) (between : TableView K V H) (side : Side) (index : ℕ) → FindsRoom kind hash old side index between
+    pub found_grows : (kind hash : ℕ) (between : TableView K V H) (side : Side) (index : ℕ)
+        → FindsBucket Counted kind hash old side index between
         → AreAsLong between.arrays new.arrays
         → (side ≡ Old → 31 ≤ length (pairs_in (bucket_on between.arrays Old index)) → IsNearlyFull (length between.arrays.linked))
         → GrowsSlots hash_of key (map_of old) (map_of new)
-    unfolding ReadiesThenGrows GrowsSlots
+    unfolding ReadiesOrGrows ReadiesThenGrows GrowsSlots
     found_grows kind hash between side index finds long full = elim finds.found [
       | inl readies ↦ from readies
-      | inr (on, grows) ↦
+      | inr (overfull, on, grows) ↦
           let home = subst (λ (s : Side). IsHome (length (buckets_on between.arrays s)) hash index) on finds.home in
           let same : length between.arrays.linked ≡ length old.arrays.current =
           ap (λ (a : ArraysView K V). length a.linked) grows.pushed.new_is in
@@ -229,21 +234,42 @@ min_with : {K V : Type 0} (a : ArraysView K V) (side : Side) (i : ℕ) (b : Buck
 min_with a Current i b = refl
 min_with a Old i b = refl
 
+-- one pair less where one was taken out
+pub fewer_taken : {K V H : Type 0} (kind : ℕ) (wants : K → Bool) (old new : TableView K V H) (r : Option (K × V))
+    → Takes wants (state_of kind old) r (state_of kind new) → is_some r ≡ true
+    → length (pairs_of old.arrays) ≡ suc (length (pairs_of new.arrays))
+fewer_taken kind wants old new (Some pair) x is =
+    omega (arith, length_permutation (pairs_of old.arrays) (pair ∷ pairs_of new.arrays) x.1.pairs)
+fewer_taken kind wants old new None x is = absurd cc
+
+pub fewer_marked : {K V H R : Type 0} (kind : ℕ) (wants : K → Bool) (reads : Bor K → Bor V → R → Type 0) (old new : TableView K V H)
+    (r : Option R) → Marks wants reads (state_of kind old) r (state_of kind new) → is_some r ≡ true
+    → length (pairs_of old.arrays) ≡ suc (length (pairs_of new.arrays))
+fewer_marked kind wants reads old new (Some answer) (own, value, read, wanted, x) is =
+    omega (arith, length_permutation (pairs_of old.arrays) ((own.now, value.now) ∷ pairs_of new.arrays) x.pairs)
+fewer_marked kind wants reads old new None x is = absurd cc
+
 -- a call that takes a pair out where one is wanted, after a bucket was made ready
 pub taken_loses : {K V H : Type 0} (kind hash : ℕ) (old new : TableView K V H) (wants : K → Bool)
     (change : BucketView K V → Place → BucketView K V) (is_there : Bool)
-    → PreparesThen kind hash old (λ between. ShrinksAt wants change is_there between new)
+    → (0 < length old.arrays.current → IsLength (length old.arrays.current))
+    → (is_there ≡ true → length (pairs_of old.arrays) ≡ suc (length (pairs_of new.arrays)))
+    → PreparesThen kind hash old (λ between. ShrinksAt wants change (pairs_left Counted old.arrays) is_there between new)
     → LosesSlots is_there (map_of old) (map_of new)
 unfolding LosesSlots
-taken_loses {K} {V} {H} kind hash old new wants change false moved =
+taken_loses {K} {V} {H} kind hash old new wants change false long fewer moved =
     prepared_keeps old new kind hash moved.between moved.prepared
     (subst (λ (t : TableView K V H). AreAsLong moved.between.arrays t.arrays) (sym moved.done) (as_long moved.between.arrays))
-taken_loses {K} {V} {H} kind hash old new wants change true moved = from moved.done
+taken_loses {K} {V} {H} kind hash old new wants change true long fewer moved = from moved.done
   where
     between : ArraysView K V
     between = moved.between.arrays
 
-    from : ShrinksAt wants change true moved.between new → KeepsSlots (map_of old) (map_of new) ⊎ ShrinksSlots (map_of old) (map_of new)
+    pairs : ℕ
+    pairs = counted_to (pairs_of old.arrays) - 1
+
+    from : ShrinksAt wants change (Some pairs) true moved.between new
+        → KeepsSlots (map_of old) (map_of new) ⊎ ShrinksSlots (map_of old) (map_of new)
     from (side, i, at, stands, shrinks) = by shrinks
       where
         b : BucketView K V
@@ -253,42 +279,43 @@ taken_loses {K} {V} {H} kind hash old new wants change true moved = from moved.d
         stays same = inl (prepared_keeps old new kind hash moved.between moved.prepared
             (subst (λ (a : ArraysView K V). AreAsLong between a) (sym same) (as_long_with between side i b)))
 
+        len : length (arrays_with between side i b).current ≡ length old.arrays.current
+        len = (as_long_with between side i b).current ∙ moved.prepared.kept.current_len
+
         more : AsksShrinking (arrays_with between side i b) i → old.arrays.minimum < 32 * length old.arrays.current
         more asks = omega (
           arith,
           asks.more,
           length-map (arrays_with between side i b).current (λ bucket. length (pairs_in bucket)),
-          (as_long_with between side i b).current,
+          len,
           min_with between side i b,
-          moved.prepared.kept.current_len,
           moved.prepared.kept.keeps.minimum,
         )
 
-        tried : AsksShrinking (arrays_with between side i b) i → (answer : Result Bool (Unit {0}))
-            → TriesResize (arrays_with between side i b) answer new.arrays
-            → KeepsSlots (map_of old) (map_of new) ⊎ ShrinksSlots (map_of old) (map_of new)
-        tried asks (Ok false) plan = stays plan.1
-        tried asks (Err e) plan = stays plan.2
-        tried asks (Ok true) (inl (plan, given)) = inr (record {
-          more = more asks;
-          went = inr (
-            omega (arith, ap (λ (a : ArraysView K V). length a.current) given.new_is),
-            omega (arith, ap (λ (a : ArraysView K V). length a.linked) given.new_is, given.alone),
-          );
-        })
-        tried asks (Ok true) (inr (capacity, plan, pushed)) = inr (record {
-          more = more asks;
-          went = inl (omega (
-            arith,
-            ap (λ (a : ArraysView K V). length a.linked) pushed.new_is,
-            (as_long_with between side i b).current,
-            moved.prepared.kept.current_len,
-          ));
-        })
+        few : IsSparse pairs (arrays_with between side i b) → 0 < length old.arrays.current
+            → 8 * length (pairs_of new.arrays) < 32 * length old.arrays.current
+        few sparse some = omega (arith, sparse, len, fewer refl, (long some).at_most)
 
-        by : RemovesAndShrinks between side i b new.arrays → KeepsSlots (map_of old) (map_of new) ⊎ ShrinksSlots (map_of old) (map_of new)
+        gone : (went : (32 * length new.arrays.linked ≡ 32 * length old.arrays.current)
+            ⊎ ((32 * length new.arrays.current ≡ 0) × (32 * length new.arrays.linked ≡ 0)))
+            → IsSparse pairs (arrays_with between side i b) → AsksShrinking (arrays_with between side i b) i
+            → ShrinksSlots (map_of old) (map_of new)
+        gone went sparse asks = record { more = more asks; few = few sparse (omega (arith, asks.some, len)); went = went }
+
+        by : RemovesAndShrinks (Some pairs) between side i b new.arrays
+            → KeepsSlots (map_of old) (map_of new) ⊎ ShrinksSlots (map_of old) (map_of new)
         by (inr (none, same)) = stays same
-        by (inl (asked, (answer, tries))) = tried asked.1 answer tries
+        by (inl ((emptied, (sparse, asks)), (plan, is, frees))) =
+            elim (freed pairs plan (arrays_with between side i b) new.arrays is frees) [
+              | inl same ↦ stays same
+              | inr (inl (least, given)) ↦ inr (gone (inr (
+                omega (arith, ap (λ (a : ArraysView K V). length a.current) given.new_is),
+                omega (arith, ap (λ (a : ArraysView K V). length a.linked) given.new_is, given.alone),
+              ))
+                  sparse asks)
+              | inr (inr (capacity, pushed)) ↦
+                  inr (gone (inl (omega (arith, ap (λ (a : ArraysView K V). length a.linked) pushed.new_is, len))) sparse asks)
+            ]
 
 -- a call that writes a value where a pair is wanted
 pub written_keeps : {K V H : Type 0} (kind hash : ℕ) (old new : TableView K V H) (wants : K → Bool) (is_there : Bool)
@@ -353,7 +380,7 @@ module _ {K V H : Type 0} (hash_of : H → K → ℕ) (key : K) (old new : Table
 
   -- a pair was put into the bucket that was found
   pub added_grows : (kind : ℕ) (keeps : ℕ → Bool) (value : V) (between : TableView K V H) (side : Side) (index byte : ℕ)
-      → FindsRoom kind (hash_of old.hasher key) old side index between → old.hasher ≡ new.hasher
+      → FindsBucket Counted kind (hash_of old.hasher key) old side index between → old.hasher ≡ new.hasher
       → IsPermutation ((key, value) ∷ pairs_of old.arrays) (pairs_of new.arrays)
       → new ≡ with_bucket between side index (slots_after_insertion kind keeps (bucket_on between.arrays side index) (key, value) byte)
       → GrowsSlots hash_of key (map_of old) (map_of new)
@@ -380,7 +407,7 @@ module _ {K V H : Type 0} (hash_of : H → K → ℕ) (key : K) (old new : Table
 
   -- a bucket was found, and the pairs stay
   pub kept_grows : (kind : ℕ) (answer : Result (Side × ℕ) (Unit {0})) (between : TableView K V H)
-      → FindsOrGrows kind (hash_of old.hasher key) old answer between → KeepsPairs (state_of kind old) (state_of kind new) → new ≡ between
+      → Finds Counted kind (hash_of old.hasher key) old answer between → KeepsPairs (state_of kind old) (state_of kind new) → new ≡ between
       → GrowsSlots hash_of key (map_of old) (map_of new)
   unfolding GrowsSlots
   kept_grows kind (Err e) between refused kept is =
@@ -404,7 +431,7 @@ module _ {K V H : Type 0} (hash_of : H → K → ℕ) (key : K) (old new : Table
   module _ (eq : K → K → Bool) (kind : ℕ) (keeps : ℕ → Bool) (value : V) where
     -- what an insertion did
     pub insertion_grows : {A : Type 0} (r : Result A (NotInserted K V)) (answer : Result (Side × ℕ) (Unit {0})) (between : TableView K V H)
-        → FindsOrGrows kind (hash_of old.hasher key) old answer between
+        → Finds Counted kind (hash_of old.hasher key) old answer between
         → InsertsAt kind keeps (key, value) (hash_of old.hasher key % 256) between r answer new
         → Inserts eq key value (state_of kind old) r (state_of kind new) → GrowsSlots hash_of key (map_of old) (map_of new)
     insertion_grows (Ok done) (Ok at) between finds is map =
@@ -416,7 +443,7 @@ module _ {K V H : Type 0} (hash_of : H → K → ℕ) (key : K) (old new : Table
     insertion_grows (Err (Memory k v)) (Err e) between finds is map = kept_grows kind (Err e) between finds map.1 is
 
     rewritten_grows : (answer : Result (Side × ℕ) (Unit {0})) (between : TableView K V H)
-        → FindsOrGrows kind (hash_of old.hasher key) old answer between
+        → Finds Counted kind (hash_of old.hasher key) old answer between
         → ChangesAt (λ own. eq own key) (λ bucket at. bucket_with_value bucket at value) true between new → (pair : K × V)
         → ChangesValue (state_of kind old) pair value (state_of kind new) → GrowsSlots hash_of key (map_of old) (map_of new)
     unfolding GrowsSlots
@@ -447,7 +474,7 @@ module _ {K V H : Type 0} (hash_of : H → K → ℕ) (key : K) (old new : Table
 
     -- and one that would write its value beside an equal key
     pub upsertion_grows : (r : Result (Option V) (K × V)) (answer : Result (Side × ℕ) (Unit {0})) (between : TableView K V H)
-        → FindsOrGrows kind (hash_of old.hasher key) old answer between
+        → Finds Counted kind (hash_of old.hasher key) old answer between
         → UpsertsAt eq kind keeps key value (hash_of old.hasher key % 256) between r answer new
         → Upserts eq key value (state_of kind old) r (state_of kind new) → GrowsSlots hash_of key (map_of old) (map_of new)
     upsertion_grows (Ok None) (Ok at) between finds is map =

@@ -4,7 +4,7 @@ use Rattle.std.specs.Cmp.{IsEquivalence}
 use Rattle.std.specs.List.{IsDistinct}
 use Rattle.std.specs.Map.{keys_of}
 use Rattle.std.proofs.lemmas.List.Sorted.{IsPermutation-sym}
-use Rattle.bucket_table.specs.Map.FindingGrown.{FindsOrSplitsThen, SplitsThen}
+use Rattle.bucket_table.specs.Map.Splitting.{FindsOrSplitsThen, SplitsThen}
 use Rattle.bucket_table.specs.Map.MapState.{MapState, state_of}
 use Rattle.bucket_table.specs.Map.Preparing.{IsPrepared}
 use Rattle.bucket_table.specs.Map.Putting as putting

@@ -1,5 +1,5 @@
 -- What calls do to the slots of a map.
-use Rattle.std.specs.Prelude.{ℕ, ◌≡◌, ◌<◌, ◌/◌, ◌⊎◌, Bool, true, false}
+use Rattle.std.specs.Prelude.{ℕ, ◌*◌, ◌≡◌, ◌<◌, ◌/◌, ◌⊎◌, Bool, true, false, length}
 use Rattle.bucket_slots.specs.Sizing.{IsLengthFor}
 use Rattle.collections.specs.Crowding.{HasAtHome}
 use Rattle.collections.specs.Maps.{MapView}
@@ -22,9 +22,10 @@ module _ {K V H : Type 0} where
     pub old_slots : new.old_slots ≡ old.slots
     pub slots : 0 < new.slots
 
-  -- the slots were more than the minimum, and are the old ones now, or there are none
+  -- the slots were more than the minimum, and fewer than an eighth of them would be live; they are the old ones now, or there are none
   pub record ShrinksSlots (old new : MapView K V H) : Type 0 where
     pub more : old.minimum < old.slots
+    pub few : 8 * length new.entries < old.slots
     pub went : (new.old_slots ≡ old.slots) ⊎ ((new.slots ≡ 0) × (new.old_slots ≡ 0))
 
   -- a removal keeps the slots, or where it took a pair out they may shrink; a caller that needs this definition unfolds it

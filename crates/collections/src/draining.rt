@@ -35,6 +35,11 @@ impl<K: Drop, V: Drop, L: LruList + Drop, const TYPE: u8> Iterator for DrainKeys
             None => None,
         }
     }
+
+    /// As that of the pairs. O(1).
+    fn size_hint(&self) -> (usize, Option<usize>) {
+        self.inner.size_hint()
+    }
 }
 
 impl<K: Drop, V: Drop, L: LruList + Drop, const TYPE: u8> FusedIterator
@@ -67,6 +72,11 @@ impl<K: Drop, V: Drop, L: LruList + Drop, const TYPE: u8> Iterator for DrainValu
             Some((_, value)) => Some(value),
             None => None,
         }
+    }
+
+    /// As that of the pairs. O(1).
+    fn size_hint(&self) -> (usize, Option<usize>) {
+        self.inner.size_hint()
     }
 }
 

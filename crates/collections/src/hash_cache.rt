@@ -37,7 +37,7 @@ use crate::sizing::{LEAST_CAPACITY, size_for};
 use bucket_slots::bucket::CACHE;
 use bucket_slots::lru::DoublyLinkedList;
 pub use bucket_table::hash_table::NotInserted;
-use bucket_table::hash_table::{HashTable, MAXIMUM_CAPACITY_LIMIT};
+use bucket_table::hash_table::{HashTable, MAXIMUM_CAPACITY_LIMIT, ResizeRule};
 use bucket_table::key_hash::{KeyHash, StdHash};
 pub use draining::Drain;
 pub use iterating::{Iter, IterByUse, Keys, Values};
@@ -341,7 +341,7 @@ impl<K: Eq + Drop, V: Drop, H: KeyHash<K>> HashCache<K, V, H> {
         self.room.learn();
         self.table.sound();
         let hash = key.hash_by(self.table.hasher());
-        let taken = self.table.take_by(hash, &mut FormProbe::<Q, H>::new(key));
+        let taken = self.table.take_by(hash, &mut FormProbe::<Q, H>::new(key), ResizeRule::Counted);
         self.table.sound();
         taken
     }

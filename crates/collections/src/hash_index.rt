@@ -45,7 +45,7 @@ use crate::key_form::{FormProbe, KeyForm, pair_by, value_by};
 use crate::room::{Fits, TableRoom};
 use crate::sizing::widest;
 use bucket_slots::bucket::INDEX;
-use bucket_table::hash_table::{HashTable, MAXIMUM_CAPACITY_LIMIT};
+use bucket_table::hash_table::{HashTable, MAXIMUM_CAPACITY_LIMIT, ResizeRule};
 use bucket_table::key_hash::{KeyHash, StdHash};
 pub use iterating::{Iter, Keys, Values};
 use std::alloc::Global;
@@ -239,7 +239,9 @@ impl<K: Eq + Drop, V: Drop, H: KeyHash<K>> HashIndex<K, V, H> {
     {
         self.room.learn();
         self.table.sound();
-        let outcome = self.table.insert_growing(key, value, &NoneKept);
+        let outcome = self
+            .table
+            .insert_pair(key, value, &NoneKept, ResizeRule::Counted);
         learn_refused(&self.table, &outcome);
         self.table.sound();
         outcome
@@ -285,9 +287,13 @@ impl<K: Eq + Drop, V: Drop, H: KeyHash<K>> HashIndex<K, V, H> {
         self.room.learn();
         self.table.sound();
         let hash = key.hash_by(self.table.hasher());
-        let outcome = self
-            .table
-            .mark_by(hash, &mut FormProbe::<Q, H>::new(key), &NoneKept, reader);
+        let outcome = self.table.mark_by(
+            hash,
+            &mut FormProbe::<Q, H>::new(key),
+            &NoneKept,
+            ResizeRule::Counted,
+            reader,
+        );
         self.table.sound();
         outcome
     }

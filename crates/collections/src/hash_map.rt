@@ -40,8 +40,8 @@ use crate::homes::{learn_homes, learn_refused};
 use crate::key_form::{FormProbe, KeyForm, value_by};
 use crate::room::{Fits, TableRoom};
 use bucket_slots::bucket::MAP;
-use bucket_table::hash_table::HashTable;
 pub use bucket_table::hash_table::NotInserted;
+use bucket_table::hash_table::{HashTable, ResizeRule};
 use bucket_table::key_hash::{KeyHash, StdHash};
 pub use draining::{Drain, IntoIter, IntoKeys, IntoValues};
 pub use entry::{Entry, EntryRef, OccupiedEntry, OccupiedEntryRef, VacantEntry, VacantEntryRef};
@@ -192,7 +192,7 @@ impl<K: Eq + Drop, V: Drop, H: KeyHash<K>> HashMap<K, V, H> {
     {
         self.room.learn();
         self.table.sound();
-        let outcome = self.table.insert_growing(key, value, &());
+        let outcome = self.table.insert_pair(key, value, &(), ResizeRule::Counted);
         learn_refused(&self.table, &outcome);
         self.table.sound();
         outcome
@@ -227,7 +227,7 @@ impl<K: Eq + Drop, V: Drop, H: KeyHash<K>> HashMap<K, V, H> {
     {
         self.room.learn();
         self.table.sound();
-        let outcome = self.table.upsert_growing(key, value, &());
+        let outcome = self.table.upsert(key, value, &(), ResizeRule::Counted);
         self.table.sound();
         let earlier = match outcome {
             Ok(earlier) => earlier,

@@ -2,9 +2,8 @@
 //! which each step returns one half.
 //!
 //! The last parameter is that of the table's own iterator: a borrow of the kind of table, which no
-//! field holds. A `size_hint` counts the pairs that are left, slot by slot. No iterator is an
-//! `ExactSizeIterator`: `len` would have to count them all, and no clause says that they are fewer
-//! than 2^64.
+//! field holds. A `size_hint` is that of the pairs, in O(1). No iterator is an `ExactSizeIterator`:
+//! no clause says that the pairs are fewer than 2^64.
 ghost use Rattle.std.specs.Prelude.{◌≡◌};
 ghost use Rattle.std.specs.Iterator.{YieldsFirstRef, item_count};
 
@@ -47,7 +46,7 @@ impl<'a, K, V, L: LruList, const TYPE: u8> Iterator
         }
     }
 
-    /// As that of the pairs.
+    /// As that of the pairs. O(1).
     fn size_hint(&self) -> (usize, Option<usize>) {
         self.inner.size_hint()
     }
@@ -101,7 +100,7 @@ impl<'a, K, V, L: LruList, const TYPE: u8> Iterator
         }
     }
 
-    /// As that of the pairs.
+    /// As that of the pairs. O(1).
     fn size_hint(&self) -> (usize, Option<usize>) {
         self.inner.size_hint()
     }

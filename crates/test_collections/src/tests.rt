@@ -18,6 +18,7 @@ mod extending;
 mod extracting;
 mod forms;
 mod hashers;
+mod hints;
 mod in_order;
 mod indexes;
 mod iterating;

@@ -9,7 +9,7 @@ use crate::steps::steps;
 use crate::tables::Step::*;
 use crate::tables::{At, Step, Story, tell};
 use bucket_slots::bucket::{Bucket, MAP};
-use bucket_table::hash_table::HashTable;
+use bucket_table::hash_table::{HashTable, ResizeRule};
 use bucket_table::key_hash::KeyHash;
 use bucket_table::script::ScriptHash;
 use std::cell::Cell;
@@ -138,7 +138,10 @@ impl<'c> Both<'c> {
         let key = self.key(number);
         let hash = self.map.hash(&key);
         self.bucket.insert(hash, (key, number), &()).is_ok()
-            && self.map.insert_pair(key, number, &()).is_ok()
+            && self
+                .map
+                .insert_pair(key, number, &(), ResizeRule::Sampled)
+                .is_ok()
     }
 
     // Whether each look-up by a key finds it, and how many keys it compares.

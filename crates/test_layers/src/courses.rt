@@ -7,7 +7,7 @@ use crate::checks::check_same;
 use crate::steps::Answers;
 use bucket_slots::bucket::{CACHE, EqProbe, INDEX, MAP};
 use bucket_slots::lru::{DoublyLinkedList, LruList};
-use bucket_table::hash_table::{HashTable, MAXIMUM_CAPACITY_LIMIT};
+use bucket_table::hash_table::{HashTable, MAXIMUM_CAPACITY_LIMIT, ResizeRule};
 use bucket_table::script::ScriptHash;
 use std::alloc::Global;
 use std::collections::BTreeMap;
@@ -106,9 +106,14 @@ fn remove<L: LruList + Drop, const TYPE: u8>(
     now: &Answers,
 ) -> Option<(u64, u64)> {
     if TYPE == INDEX {
-        table.mark(&key, now, |own: &u64, value: &u64| (*own, *value))
+        table.mark(
+            &key,
+            now,
+            ResizeRule::Sampled,
+            |own: &u64, value: &u64| (*own, *value),
+        )
     } else {
-        table.take(&key)
+        table.take(&key, ResizeRule::Sampled)
     }
 }
 

@@ -3,6 +3,7 @@ use crate::by_lock::Map;
 use crate::checks::check_same;
 use crate::growth::DOUBLED;
 use crate::tables::{new_map, play};
+use bucket_table::hash_table::ResizeRule;
 use bucket_table::script::ScriptHash;
 use std::process::Abort;
 use std::test::Fail;
@@ -56,7 +57,9 @@ fn both_arrays_are_asked_for_once_and_stay(rt: HostRuntime) -> Result<(), Fail> 
 fn a_chain_is_asked_for_to_its_end(rt: HostRuntime) -> Result<(), Fail> {
     let mut table = new_map(rt.alloc(), ScriptHash::Zero, 0);
     for key in 0..100 {
-        let done = table.insert_pair(key, key, &()).is_ok();
+        let done = table
+            .insert_pair(key, key, &(), ResizeRule::Sampled)
+            .is_ok();
         check_same(&rt, done, true, ("put", key));
     }
     check_same(&rt, retain_some(&mut table), (100, 34), "a chain");

@@ -8,7 +8,7 @@ use crate::cursors::{Stop, follow};
 use crate::steps::Spot;
 use crate::walks::{finish, strip};
 use bucket_slots::bucket::EqProbe;
-use bucket_table::hash_table::{HashTable, MAXIMUM_CAPACITY_LIMIT, TicketError};
+use bucket_table::hash_table::{HashTable, MAXIMUM_CAPACITY_LIMIT, ResizeRule, TicketError};
 use bucket_table::script::ScriptHash;
 use std::alloc::Global;
 use std::process::Abort;
@@ -126,13 +126,16 @@ fn take(rt: &impl Abort, table: &mut Map, at: At, step: &Step) -> Result<(), Fai
     match step {
         Step::Puts(from, to) => {
             for key in *from..*to {
-                let done = table.insert_pair(key, key, &()).is_ok();
+                let done = table
+                    .insert_pair(key, key, &(), ResizeRule::Sampled)
+                    .is_ok();
                 check_same(rt, done, true, (at, "puts", key));
             }
         }
         Step::Takes(from, to) => {
             for key in *from..*to {
-                check_same(rt, table.take(&key), Some((key, key)), (at, "takes", key));
+                let taken = table.take(&key, ResizeRule::Sampled);
+                check_same(rt, taken, Some((key, key)), (at, "takes", key));
             }
         }
         Step::Works(from, to) => {

@@ -5,7 +5,7 @@ use crate::checks::check_same;
 use Action::*;
 use bucket_slots::bucket::CACHE;
 use bucket_slots::lru::DoublyLinkedList;
-use bucket_table::hash_table::{HashTable, NotInserted};
+use bucket_table::hash_table::{HashTable, NotInserted, ResizeRule};
 use bucket_table::script::ScriptHash;
 use std::mem;
 use std::process::Abort;
@@ -160,12 +160,15 @@ fn act(
     match action {
         Puts(from, to) => {
             for key in *from..*to {
-                let done = cache.insert_pair(key, key, &()).is_ok();
+                let done = cache
+                    .insert_pair(key, key, &(), ResizeRule::Sampled)
+                    .is_ok();
                 check_same(rt, done, true, (at, key));
             }
         }
         Upserts(key, value, earlier) => {
-            check_same(rt, cache.upsert(*key, *value, &()), Ok(*earlier), at);
+            let done = cache.upsert(*key, *value, &(), ResizeRule::Sampled);
+            check_same(rt, done, Ok(*earlier), at);
         }
         Adds(key, earlier) => check_same(rt, cache.update(key, add_one), *earlier, at),
         Writes(key, value, earlier) => check_same(rt, write(cache, key, *value), *earlier, at),

@@ -1,7 +1,7 @@
 //! A map whose keys are words, hashed as std's maps hash them.
 use crate::checks::check_same;
 use bucket_slots::bucket::MAP;
-use bucket_table::hash_table::{HashTable, Missing};
+use bucket_table::hash_table::{HashTable, Missing, ResizeRule};
 use bucket_table::key_hash::StdHash;
 use std::hash::{BuildHasherDefault, FoldHasher};
 use std::process::Abort;
@@ -60,13 +60,14 @@ fn words_are_found_by_stds_hashes(rt: HostRuntime) -> Result<(), Fail> {
 fn play(rt: &impl Abort, words: &mut Words, row: usize, step: &Step) {
     match *step {
         Step::Put(word, number, done) => {
-            check_same(rt, words.insert_pair(word, number, &()).is_ok(), done, row);
+            let put = words.insert_pair(word, number, &(), ResizeRule::Sampled);
+            check_same(rt, put.is_ok(), done, row);
         }
         Step::Has(word, number) => {
             let found = words.peek_entry(&word).map(|pair| *pair.1);
             check_same(rt, found, number, row);
         }
-        Step::Take(word, pair) => check_same(rt, words.take(&word), pair, row),
+        Step::Take(word, pair) => check_same(rt, words.take(&word, ResizeRule::Sampled), pair, row),
         Step::Len(words_there) => {
             let found = (words.len(), words.is_empty());
             check_same(rt, found, (words_there, words_there == 0), row);

@@ -4,7 +4,7 @@ ghost use Rattle.std.specs.Prelude.{◌≡◌, false};
 ghost use Rattle.bucket_table.specs.Rehash.Finishing.{IsUnopened};
 
 use bucket_slots::bucket::{Bucket, EntryPtr, MAP};
-use bucket_table::hash_table::{HashTable, LockedBucket, Missing};
+use bucket_table::hash_table::{HashTable, LockedBucket, Missing, ResizeRule};
 use bucket_table::script::{Call, Reply, ScriptHash, run};
 use bucket_table::tickets::TICKET_STEP;
 use std::alloc::Global;
@@ -152,7 +152,7 @@ pub(crate) fn write(table: &mut Map, beside: &mut FewKeys, key: u64) -> Answer {
     };
     let value = earlier.wrapping_add(1);
     beside.set(key, Some(value));
-    right_if(table.upsert(key, value, &()) == Ok(Some(earlier)))
+    right_if(table.upsert(key, value, &(), ResizeRule::Sampled) == Ok(Some(earlier)))
 }
 
 /// Relocates an old bucket, which has so many pairs. If allocation fails, it keeps them all.

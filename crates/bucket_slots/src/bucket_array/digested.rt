@@ -10,10 +10,8 @@ ghost use Rattle.bucket_slots.specs.Places.{pair_lent};
 ghost use Rattle.bucket_slots.specs.Searching.{matching_len, pair_wanted, place_wanted};
 ghost use Rattle.bucket_slots.specs.Slots.{is_live, live_pair};
 
+use super::BucketArray;
 use super::digests::{Digests, is_lost};
-use super::known::{find_in, known_in, peek_in};
-use super::parts::{bucket_in, made_bucket_in, place_in};
-use super::{BucketArray, sizing};
 use crate::bucket::{CACHE, EntryPtr, KeyProbe};
 use crate::lru::LruList;
 use std::alloc::Global;
@@ -40,27 +38,11 @@ impl<K, V, L: LruList, const TYPE: u8> BucketArray<K, V, L, TYPE> {
         ensures fixed { P.wants probe.new ≡ P.wants probe.old }
     {
         self.room();
-        let live = self.digests.live(index);
-        if is_lost(live) {
+        let Some((_live, left)) = self.digests.known(&self.buckets, index, hash) else {
             return self.bucket(index).peek_entry_by(hash, probe);
-        }
-        let byte = (hash % 256) as u8;
-        let left = self.digests.candidates(index, live, byte);
-        sizing::below(index, self.len);
-        prove!(live != u32::MAX);
-        let (part, offset) = known_in(
-            &self.parts,
-            &self.spare,
-            &self.digests,
-            self.len,
-            self.part_bits,
-            self.part_mask,
-            index,
-            live,
-            left,
-            byte,
-        );
-        peek_in(&self.parts, part, offset, left, byte, probe)
+        };
+        let (_at, key, value) = self.buckets.find_among(index, left, hash, probe)?;
+        Some((key, value))
     }
 
     /// Tests whether a bucket's digest shows that it has fewer than `len` live slots.
@@ -88,31 +70,12 @@ impl<K, V, L: LruList, const TYPE: u8> BucketArray<K, V, L, TYPE> {
         ensures fixed { P.wants probe.new ≡ P.wants probe.old }
     {
         self.room();
-        let live = self.digests.live(index);
-        if is_lost(live) {
+        let Some((_live, left)) = self.digests.known(&self.buckets, index, hash) else {
             let at = self.bucket(index).get_entry_ptr_by(hash, probe);
             return if at.is_valid() { Some(at) } else { None };
-        }
-        let byte = (hash % 256) as u8;
-        let left = self.digests.candidates(index, live, byte);
-        sizing::below(index, self.len);
-        prove!(live != u32::MAX);
-        let (part, offset) = known_in(
-            &self.parts,
-            &self.spare,
-            &self.digests,
-            self.len,
-            self.part_bits,
-            self.part_mask,
-            index,
-            live,
-            left,
-            byte,
-        );
-        match find_in(&self.parts, part, offset, left, byte, probe) {
-            Some((at, _, _)) => Some(at),
-            None => None,
-        }
+        };
+        let (at, _key, _value) = self.buckets.find_among(index, left, hash, probe)?;
+        Some(at)
     }
 
     /// Lends the pair in a live slot of a bucket, its value for writing. The digest stays.
@@ -130,16 +93,7 @@ impl<K, V, L: LruList, const TYPE: u8> BucketArray<K, V, L, TYPE> {
             ≡ Some (result.0.now, result.1.now) }
     {
         self.room();
-        sizing::below(index, self.len);
-        let (part, offset) = place_in(
-            &self.parts,
-            &self.spare,
-            self.len,
-            self.part_bits,
-            self.part_mask,
-            index,
-        );
-        bucket_in(&mut self.parts, part, offset).entry_mut(at)
+        self.buckets.get_mut(index).entry_mut(at)
     }
 
     /// Makes the pair in a live slot the one touched last in its bucket. The digest stays.
@@ -154,16 +108,7 @@ impl<K, V, L: LruList, const TYPE: u8> BucketArray<K, V, L, TYPE> {
             (slots_touched L.KEEPS (bucket_at self.old index) at.now) }
     {
         self.room();
-        sizing::below(index, self.len);
-        let (part, offset) = place_in(
-            &self.parts,
-            &self.spare,
-            self.len,
-            self.part_bits,
-            self.part_mask,
-            index,
-        );
-        bucket_in(&mut self.parts, part, offset).update_lru_tail(at);
+        self.buckets.get_mut(index).update_lru_tail(at);
     }
 
     /// Makes the pair in a live slot the one touched last in its bucket, and lends it, its value
@@ -186,16 +131,7 @@ impl<K, V, L: LruList, const TYPE: u8> BucketArray<K, V, L, TYPE> {
             return self.entry_mut(index, at);
         }
         self.room();
-        sizing::below(index, self.len);
-        let (part, offset) = place_in(
-            &self.parts,
-            &self.spare,
-            self.len,
-            self.part_bits,
-            self.part_mask,
-            index,
-        );
-        let bucket = made_bucket_in(&mut self.parts, part, offset);
+        let bucket = self.buckets.made_mut(index);
         bucket.update_lru_tail(at);
         bucket.entry_mut(at)
     }
@@ -208,8 +144,7 @@ impl<K, V, L: LruList, const TYPE: u8> BucketArray<K, V, L, TYPE> {
         ensures { self.new ≡ self.old }
     {
         self.room();
-        let (part, offset) = sizing::place_of(index, self.part_bits, self.part_mask);
-        let (live, bytes) = self.parts[part].bucket(offset, &self.spare).digest();
+        let (live, bytes) = self.buckets.get(index).digest();
         self.digests.settle(index, live, bytes);
     }
 
@@ -233,7 +168,7 @@ impl<K, V, L: LruList, const TYPE: u8> BucketArray<K, V, L, TYPE> {
         ensures other { from.new ≡ from.old }
     {
         let mut digests = mem::replace(&mut from.digests, Digests::none(alloc));
-        digests.restart(alloc, self.len);
+        digests.restart(alloc, self.buckets.len());
         self.digests = digests;
     }
 
@@ -253,6 +188,6 @@ impl<K, V, L: LruList, const TYPE: u8> BucketArray<K, V, L, TYPE> {
     fn restart_digests(&mut self, alloc: Global)
         ensures { self.new ≡ self.old }
     {
-        self.digests.restart(alloc, self.len);
+        self.digests.restart(alloc, self.buckets.len());
     }
 }

@@ -4,16 +4,21 @@
 //! bitmap has all bits set or its index is past the end.
 //!
 //! Own.
-ghost use Rattle.std.specs.Prelude.{◌≡◌, ◌≢◌, ◌==◌, ℕ, ◌-◌, ◌^◌, ◌<◌};
-ghost use Rattle.std.specs.Prelude.{IsTrue, ◌↔◌, bit_and, slice_set};
+ghost use Rattle.std.specs.Prelude.{◌≡◌, ◌≢◌, ◌==◌, ℕ, ◌-◌, ◌^◌, ◌<◌, ◌%◌};
+ghost use Rattle.std.specs.Prelude.{IfSome, IsTrue, ◌↔◌, [], bit_and, slice_set};
 ghost use Rattle.std.specs.Int.Count.{ones};
 ghost use Rattle.bucket_slots.specs.Layout.Bitmaps.{SetsBit};
-ghost use Rattle.bucket_slots.specs.Layout.Digests.{ChangesOne, IsLost, KnowsNone};
+ghost use Rattle.bucket_slots.specs.ArrayView.{bucket_at};
+ghost use Rattle.bucket_slots.specs.Layout.Digests.{AreDigests, ChangesOne, IsLost, KnowsNone};
 ghost use Rattle.bucket_slots.specs.Layout.Digests.{Settles, digest_at};
 ghost use Rattle.bucket_slots.specs.Masks.{IsMaskOf};
+ghost use Rattle.bucket_slots.specs.Searching.{has_byte};
+ghost use Rattle.bucket_slots.specs.Slots.{is_live};
 
+use super::buckets::Buckets;
 use crate::bucket::BUCKET_LEN;
 use crate::bucket::bits::{with_bit, without_bit};
+use crate::lru::LruList;
 use crate::matcher::match_partial_hash;
 use std::alloc::Global;
 use std::marker::Model;
@@ -84,9 +89,36 @@ impl Digests {
         self.lives.len() <= index
     }
 
+    /// Returns the bitmap of a bucket's live own slots, and those of them that have the hash's
+    /// fingerprint; `None` if the digest is lost. A bucket whose digest isn't lost has no chain.
+    #[inline(always)]
+    pub(crate) fn known<K, V, L: LruList, const TYPE: u8>(
+        &self,
+        buckets: &Buckets<K, V, L, TYPE>,
+        index: usize,
+        hash: u64,
+    ) -> Option<(u32, u32)>
+        requires { AreDigests self.now buckets.now }
+        ensures live { IfSome result (λ known. known.0 ≡ (digest_at self.now index).live) }
+        ensures known { IfSome result (λ known. known.0 ≢ 2 ^ 32 - 1) }
+        ensures said { IfSome result (λ _known. (digest_at self.now index).live ≢ 2 ^ 32 - 1) }
+        ensures lives { IfSome result
+            (λ known. IsMaskOf is_live (bucket_at buckets.now index).own known.0) }
+        ensures mask { IfSome result
+            (λ known. IsMaskOf (has_byte (hash % 256)) (bucket_at buckets.now index).own known.1) }
+        ensures chainless { IfSome result (λ _known. (bucket_at buckets.now index).chain ≡ []) }
+    {
+        let live = self.live(index);
+        if is_lost(live) {
+            return None;
+        }
+        prove!(live != LOST);
+        Some((live, self.candidates(index, live, (hash % 256) as u8)))
+    }
+
     /// Returns those of the live own slots that have this fingerprint.
     #[inline(always)]
-    pub(crate) fn candidates(&self, index: usize, live: u32, byte: u8) -> u32
+    fn candidates(&self, index: usize, live: u32, byte: u8) -> u32
         requires known { (digest_at self.now index).live ≢ 2 ^ 32 - 1 }
         ensures { (mask : ℕ) × IsMaskOf (λ own. own == byte) (digest_at self.now index).bytes mask
             × (result ≡ bit_and mask live) }

@@ -6,8 +6,6 @@ ghost use Rattle.std.specs.Prelude.{◌≡◌, ◌<◌, length};
 ghost use Rattle.bucket_slots.specs.Homes.{IsHome};
 ghost use Rattle.bucket_slots.specs.Spreading.{SpreadsSome};
 
-use super::parts::{place_in, release_in, release_to_in, spread_in};
-use super::sizing::LEAST_PART_BITS;
 use super::{BucketArray, sizing};
 use crate::bucket::Bucket;
 use crate::lru::LruList;
@@ -35,31 +33,15 @@ impl<K: Drop, V: Drop, L: LruList, const TYPE: u8> BucketArray<K, V, L, TYPE> {
         if len < 2 {
             return;
         }
-        if start >= self.len {
+        if start >= self.buckets.len() {
             return;
         }
         if !self.digests.is_lost_from(start) {
             return;
         }
         self.room();
-        let (part, offset) = place_in(
-            &self.parts,
-            &self.spare,
-            self.len,
-            self.part_bits,
-            self.part_mask,
-            start,
-        );
-        spread_in(
-            &mut self.parts,
-            part,
-            source,
-            offset,
-            len,
-            start,
-            self.hash_offset,
-            hash_of,
-        );
+        self.buckets
+            .spread(source, start, len, self.hash_offset, hash_of);
     }
 }
 
@@ -75,20 +57,7 @@ impl<K: Drop, V: Drop, L: LruList + Drop, const TYPE: u8> BucketArray<K, V, L, T
         requires { index < length self.old }
         ensures { self.new ≡ self.old }
     {
-        if self.part_bits <= LEAST_PART_BITS {
-            return;
-        }
-        self.room();
-        sizing::below(index, self.len);
-        let (part, _offset) = place_in(
-            &self.parts,
-            &self.spare,
-            self.len,
-            self.part_bits,
-            self.part_mask,
-            index,
-        );
-        release_in(&mut self.parts, part);
+        self.buckets.release(index);
     }
 
     /// Frees the buckets of the part around a bucket, if every one is killed and empty, and
@@ -102,26 +71,9 @@ impl<K: Drop, V: Drop, L: LruList + Drop, const TYPE: u8> BucketArray<K, V, L, T
         ensures kept { self.new ≡ self.old }
         ensures other { to.new ≡ to.old }
     {
-        if self.part_bits != to.part_bits {
-            self.release_around(index);
+        if self.buckets.release_into(index, &mut to.buckets) {
             return;
         }
-        if self.exchange_around(index, to) {
-            return;
-        }
-        self.release_around(index);
-    }
-
-    /// Frees the buckets of the part around a bucket, and exchanges their memory with that of a
-    /// part of another array in which no bucket is made. Returns whether there is such a part. No
-    /// bucket changes.
-    fn exchange_around(&mut self, index: usize, to: &mut Self) -> bool
-        requires { index < length self.old }
-        ensures kept { self.new ≡ self.old }
-        ensures other { to.new ≡ to.old }
-    {
-        self.room();
-        let (part, _offset) = sizing::place_of(index, self.part_bits, self.part_mask);
-        release_to_in(&mut self.parts, part, &mut to.parts)
+        self.buckets.release(index);
     }
 }

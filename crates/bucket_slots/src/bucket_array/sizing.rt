@@ -98,13 +98,6 @@ pub(crate) fn place_of(index: usize, part_bits: u32, part_mask: usize) -> (usize
     (index >> part_bits, index & part_mask)
 }
 
-/// States that an index is below a length; does nothing at run time.
-#[inline(always)]
-pub(crate) fn below(index: usize, len: usize)
-    requires { index < len }
-    ensures { index < len }
-{}
-
 /// Returns how many buckets there are from one up to below another.
 #[inline(always)]
 pub(crate) fn span(start: usize, end: usize) -> usize

@@ -7,9 +7,7 @@ ghost use Rattle.bucket_slots.specs.BucketView.{BucketView};
 ghost use Rattle.bucket_slots.specs.Clearing.{slots_after_insertion};
 ghost use Rattle.bucket_slots.specs.Digested.{AnswersPut, TakesWanted, UpsertsIn};
 
-use super::digests::is_lost;
-use super::known::{fill_in, find_in, known_in, remove_in};
-use super::{BucketArray, sizing};
+use super::BucketArray;
 use crate::bucket::{EqProbe, Generation, INDEX, KeyProbe};
 use crate::lru::LruList;
 use std::mem;
@@ -41,32 +39,15 @@ impl<K: Drop, V: Drop, L: LruList, const TYPE: u8> BucketArray<K, V, L, TYPE> {
         ensures fixed { P.wants probe.new ≡ P.wants probe.old }
     {
         self.room();
-        let live = self.digests.live(index);
-        if is_lost(live) {
+        let Some((live, left)) = self.digests.known(&self.buckets, index, hash) else {
             return self.take_lost(index, hash, probe);
-        }
-        let byte = (hash % 256) as u8;
-        let left = self.digests.candidates(index, live, byte);
-        sizing::below(index, self.len);
-        prove!(live != u32::MAX);
-        let (part, offset) = known_in(
-            &self.parts,
-            &self.spare,
-            &self.digests,
-            self.len,
-            self.part_bits,
-            self.part_mask,
-            index,
-            live,
-            left,
-            byte,
-        );
-        let at = match find_in(&self.parts, part, offset, left, byte, probe) {
+        };
+        let at = match self.buckets.find_among(index, left, hash, probe) {
             Some((at, _, _)) => at,
             None => return None,
         };
         let pos = at.pos() as u32;
-        let pair = remove_in(&mut self.parts, part, offset, at);
+        let pair = self.buckets.remove(index, at);
         let left = self.digests.free(index, live, pos);
         Some((pair, left))
     }
@@ -125,37 +106,20 @@ impl<K: Drop, V: Drop, L: LruList, const TYPE: u8> BucketArray<K, V, L, TYPE> {
         ensures unchanged { OnErr result (self.new ≡ self.old) }
     {
         self.room();
-        let live = self.digests.live(index);
-        if TYPE == INDEX || is_lost(live) {
+        if TYPE == INDEX {
             return self.insert_lost(index, hash, key, value, generation);
         }
-        let byte = (hash % 256) as u8;
-        let left = self.digests.candidates(index, live, byte);
-        sizing::below(index, self.len);
-        prove!(live != u32::MAX);
-        let (part, offset) = known_in(
-            &self.parts,
-            &self.spare,
-            &self.digests,
-            self.len,
-            self.part_bits,
-            self.part_mask,
-            index,
-            live,
-            left,
-            byte,
-        );
-        if let Some(_found) = find_in(
-            &self.parts,
-            part,
-            offset,
-            left,
-            byte,
-            &mut EqProbe::new(&key),
-        ) {
+        let Some((live, left)) = self.digests.known(&self.buckets, index, hash) else {
+            return self.insert_lost(index, hash, key, value, generation);
+        };
+        if let Some(_found) = self
+            .buckets
+            .find_among(index, left, hash, &mut EqProbe::new(&key))
+        {
             return Err(NotPut::Present(key, value));
         }
-        let pos = fill_in(&mut self.parts, part, offset, live, byte, (key, value));
+        let byte = (hash % 256) as u8;
+        let pos = self.buckets.fill(index, live, byte, (key, value));
         self.digests.fill(index, live, pos, byte);
         Ok(())
     }

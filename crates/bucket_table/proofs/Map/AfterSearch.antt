@@ -4,6 +4,7 @@ use Rattle.bucket_table.proofs.Words.{TableView, ℕ, ap, arith, false, length, 
 use Rattle.bucket_table.specs.Map.Finding.{FindsThen}
 use Rattle.bucket_table.specs.Map.Preparing.{HomeWantsMemory, IsPrepared}
 use Rattle.bucket_table.specs.Map.Putting.{Puts, PutsAt}
+use Rattle.bucket_table.specs.declared.hash_table.ResizeRule.TheVariants.{Sampled}
 use Rattle.bucket_table.specs.declared.hash_table.NotInserted.{NotInserted}
 use Rattle.bucket_table.specs.declared.hash_table.NotInserted.TheVariants.{Memory, Present}
 use Rattle.std.proofs.lemmas.List.Elements.{All-contains}
@@ -13,13 +14,14 @@ use Rattle.bucket_table.proofs.Map.Putting.{refused_put}
 module _ {K V H : Type 0} where
   -- a pair put where nothing was to be prepared
   pub put_first : (kind h : ℕ) (first old : TableView K V H) → old ≡ first
-      → (Then : Result (Side × ℕ) (Unit {0}) → TableView K V H → Type 0) → FindsThen kind h old Then → FindsThen kind h first Then
-  put_first kind h first old same Then done = subst (λ (t : TableView K V H). FindsThen kind h t Then) same done
+      → (Then : Result (Side × ℕ) (Unit {0}) → TableView K V H → Type 0) → FindsThen Sampled kind h old Then
+      → FindsThen Sampled kind h first Then
+  put_first kind h first old same Then done = subst (λ (t : TableView K V H). FindsThen Sampled kind h t Then) same done
 
   -- no pair put beside an old array, for want of memory
   pub refused_vacant : (kind h : ℕ) (keeps : Bool) (key : K) (value : V) (first old : TableView K V H) → IsPrepared kind h first old
       → (0 < length first.arrays.linked) × HomeWantsMemory h first.arrays old.arrays
-      → FindsThen kind h first (λ answer table. PutsAt keeps (key, value) (h % 256) table (Err (Memory key value)) answer old)
+      → FindsThen Sampled kind h first (λ answer table. PutsAt keeps (key, value) (h % 256) table (Err (Memory key value)) answer old)
   refused_vacant kind h keeps key value first old prepared vacant =
       refused_put kind h keeps (key, value) first old (Memory key value)
       (record { prepared = prepared; alone = λ none. absurd (omega (arith, none, vacant.0)); home = λ stands. vacant.1 })

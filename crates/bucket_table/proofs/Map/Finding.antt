@@ -1,21 +1,34 @@
 -- What finding a bucket for a writer, and preparing a home, leave of a table.
-use Rattle.bucket_table.proofs.Words.{AreSourcesKilled, ArraysView, Current, Err, IfErr, IfOk, IfSome, IsHome, IsLocked, Keeps, KeepsArrays}
-use Rattle.bucket_table.proofs.Words.{None, Ok, OnErr, OnOk, Option, ResizesIf, Result, Side, Some, TableView, WorksUnits, ℕ, ap, arith}
-use Rattle.bucket_table.proofs.Words.{buckets_on, cases_lt, inl, inr, length, refl, subst, sym, ◌<◌, ◌≡◌, ◌⊎◌}
-use Rattle.bucket_table.specs.Map.Finding.{Finds, FindsBucket, FindsNone, MakesReady, ReadiesThenGrows}
+use Rattle.bucket_table.proofs.Words.{ArePlaced, AreSourcesKilled, ArraysView, Current, Err, IfErr, IfOk, IfSome, IsHome, IsLocked, Keeps}
+use Rattle.bucket_table.proofs.Words.{KeepsArrays, KeepsPairs, None, Ok, Old, OnErr, OnOk, Option, ResizesIf, Result, Side, Some, TableView}
+use Rattle.bucket_table.proofs.Words.{WorksUnits, ℕ, ap, arith, buckets_on, cases_lt, inl, inr, length, refl, subst, sym, ◌*◌, ◌<◌, ◌∙◌, ◌≡◌, ◌⊎◌}
+use Rattle.bucket_table.specs.Map.Finding.{Finds, FindsBucket, FindsNone, MakesReady, ReadiesOrGrows, ReadiesThenGrows}
 use Rattle.bucket_table.specs.Map.Preparing.{HomeWantsMemory, IsMissing, IsPrepared, IsReady}
 use Rattle.bucket_table.specs.Resize.Growing.{Grows, WriterAsksGrowth}
+use Rattle.bucket_table.specs.Resize.Overfull.{GrowsOverfull}
 use Rattle.bucket_table.specs.declared.arrays.Missing.{Missing}
 use Rattle.bucket_table.specs.declared.arrays.Missing.TheVariants.{Memory, Nothing}
+use Rattle.bucket_table.specs.declared.hash_table.ResizeRule.{ResizeRule}
+use Rattle.bucket_table.specs.declared.hash_table.ResizeRule.TheVariants.{Counted, Sampled}
 use Rattle.bucket_table.specs.Map.MapState.{state_of}
 use Rattle.bucket_table.specs.Map.Free.{IsRoomy}
 use Rattle.bucket_table.proofs.Rehash.UnitRuns.{units_wider}
 use Rattle.bucket_table.proofs.Scripts.CallSteps.{then_kept}
 use Rattle.bucket_table.proofs.Views.Keeping.{keeps_both, keeps_same, kept_none}
+use Rattle.bucket_table.proofs.Resize.Following.{pushed_keeps}
+use Rattle.bucket_table.proofs.Resize.Growing.{locked_grown}
 use Rattle.bucket_table.proofs.Resize.Settling.{stays_unasked}
-use Rattle.bucket_table.proofs.Map.MapKept.{state_found}
+use Rattle.bucket_table.proofs.Views.SideChanges.{locked_current}
+use Rattle.bucket_table.proofs.Map.MapKept.{hasher_kept, state_found}
 
 module _ {K V : Type 0} where
+  -- by samples, no home grows for being overfull
+  pub readies_sampled : (kind hash : ℕ) (old : ArraysView K V) (side : Side) (index : ℕ) (new : ArraysView K V)
+      → ReadiesOrGrows Sampled kind hash old side index new → ReadiesThenGrows kind hash old side index new
+  unfolding ReadiesOrGrows
+  readies_sampled kind hash old side index new (inl readies) = readies
+  readies_sampled kind hash old side index new (inr (overfull, on, grows)) = absurd cc
+
   -- it was refused beside an old array, or for the first one
   pub none_found : (hash : ℕ) (old new : ArraysView K V) → (0 < length old.linked → KeepsArrays old new)
       → WorksUnits 1 (IsHome (length new.current) hash) old new
@@ -80,13 +93,15 @@ module _ {K V H : Type 0} (kind hash : ℕ) (hasher : H) (a new : ArraysView K V
   }
 
   -- what the arrays answer is what the table answers
-  pub finds : {E : Type 0} (result : Result (Side × ℕ) E) → Keeps a new → IfOk result (λ found. IsLocked new found.0 found.1)
+  pub finds : {E : Type 0} (rule : ResizeRule) (result : Result (Side × ℕ) E) → Keeps a new
+      → IfOk result (λ found. IsLocked new found.0 found.1)
       → IfOk result (λ found. IsHome (length (buckets_on new found.0)) hash found.1)
       → IfOk result (λ found. ReadiesThenGrows kind hash a found.0 found.1 new) → OnErr result (FindsNone hash a new)
-      → Finds kind hash (over a) result (over new)
-  finds (Ok at) kept locked home ready none =
-      record { map = state_found kind hasher a new kept; kept = kept; home = home; locked = locked; found = ready }
-  finds (Err e) kept locked home ready none = record {
+      → Finds rule kind hash (over a) result (over new)
+  unfolding ReadiesOrGrows
+  finds rule (Ok at) kept locked home ready none =
+      record { map = state_found kind hasher a new kept; kept = kept; home = home; locked = locked; found = inl ready }
+  finds rule (Err e) kept locked home ready none = record {
     prepared = prepared none.kept none.units (λ gone. (none.alone gone).1) (λ stands. inr (none.home stands));
     alone = λ gone. (none.alone gone).0;
     home = none.home;
@@ -97,9 +112,9 @@ module _ {K V H : Type 0} (kind hash : ℕ) (hasher : H) (a new : ArraysView K V
     pub found_ready : (side : Side) (index : ℕ) → IsPrepared kind hash first (over a) → IsReady a hash
         → IsHome (length a.current) hash index → Keeps a new → ResizesIf (WriterAsksGrowth kind hash a index) a new → Grows side a new
         → IsLocked new side index → IsHome (length (buckets_on new side)) hash index
-        → FindsBucket kind hash first side index (over new)
-    unfolding ReadiesThenGrows
-    found_ready side index prepared ready home kept asked grown locked at_home =
+        → (rule : ResizeRule) → FindsBucket rule kind hash first side index (over new)
+    unfolding ReadiesOrGrows ReadiesThenGrows
+    found_ready side index prepared ready home kept asked grown locked at_home rule =
         let readies : MakesReady first.arrays index a = record {
           first = λ none.
               let same = ap (λ (t : TableView K V H). t.arrays) (prepared.alone none) in
@@ -114,13 +129,14 @@ module _ {K V H : Type 0} (kind hash : ℕ) (hasher : H) (a new : ArraysView K V
           kept = keeps_both first.arrays a new prepared.kept.keeps kept;
           home = at_home;
           locked = locked;
-          found = (a, readies, asked, grown);
+          found = inl (a, readies, asked, grown);
         }
 
   -- a roomy home is found as it stands
-  pub roomy_found : (index : ℕ) → IsRoomy a hash index → FindsBucket kind hash (over a) Current index (over a)
-  unfolding ReadiesThenGrows
-  roomy_found index roomy =
+  pub roomy_found : (index : ℕ) → IsRoomy a hash index → (rule : ResizeRule)
+      → FindsBucket rule kind hash (over a) Current index (over a)
+  unfolding ReadiesOrGrows ReadiesThenGrows
+  roomy_found index roomy rule =
       let no_old : (i : ℕ) → i < length a.linked → ⊥ = λ i below. omega (arith, below, roomy.alone) in
       let killed : AreSourcesKilled a index = λ i below source. absurd (no_old i below) in
       let some = roomy.home.within in record {
@@ -128,7 +144,7 @@ module _ {K V H : Type 0} (kind hash : ℕ) (hasher : H) (a new : ArraysView K V
         kept = keeps_same a;
         home = roomy.home;
         locked = record { within = some; killed = λ e. killed; alive = λ e. absurd cc; vacant = λ e. absurd cc };
-        found = (
+        found = inl (
           a,
           record {
             first = λ alone. (λ stands. refl, λ none. absurd (omega arith));
@@ -142,6 +158,34 @@ module _ {K V H : Type 0} (kind hash : ℕ) (hasher : H) (a new : ArraysView K V
       }
 
   pub roomy_finds : (found : Option ℕ) → IfSome found (λ index. IsRoomy a hash index)
-      → IfSome found (λ index. FindsBucket kind hash (over a) Current index (over a))
+      → IfSome found (λ index. (rule : ResizeRule) → FindsBucket rule kind hash (over a) Current index (over a))
   roomy_finds None none = tt
   roomy_finds (Some index) roomy = roomy_found index roomy
+
+module _ {K V H : Type 0} where
+  -- a home that was overfull is found, in the old array now
+  pub found_grown : (kind hash : ℕ) (old : TableView K V H) (index : ℕ) (new : TableView K V H) → (hash_of : K → ℕ)
+      → ArePlaced hash_of old.arrays → KeepsPairs (state_of kind old) (state_of kind new) → GrowsOverfull hash old.arrays new.arrays
+      → IsHome (length new.arrays.linked) hash index → FindsBucket Counted kind hash old Old index new
+  unfolding ReadiesOrGrows
+  found_grown kind hash old index new hash_of placed map grows home =
+      let pushed = grows.pushed in
+      let len = ap (λ (a : ArraysView K V). length a.linked) pushed.new_is in
+      let within : index < length old.arrays.current = omega (arith, home.within, len) in
+      let locked = locked_current old.arrays index within (λ i below source. absurd (omega (arith, below, pushed.alone))) in
+      record {
+        map = map;
+        kept = pushed_keeps _ old.arrays new.arrays pushed;
+        home = home;
+        locked = locked_grown Old index old.arrays new.arrays hash_of (64 * length old.arrays.current, pushed) placed locked;
+        found = inr (refl, refl, grows);
+      }
+
+  -- and one that was not is found in the arrays as they were
+  pub found_ungrown : {E : Type 0} (rule : ResizeRule) (kind hash : ℕ) (old between new : TableView K V H) (r : Result (Side × ℕ) E)
+      → KeepsPairs (state_of kind old) (state_of kind between) → between.arrays ≡ old.arrays → Finds rule kind hash between r new
+      → Finds rule kind hash old r new
+  found_ungrown rule kind hash old between new r keeps same finds =
+      let is : between ≡ old = ap (λ (h : H). record { hasher = h; arrays = between.arrays }) (hasher_kept _ _ keeps)
+      ∙ ap (λ (a : ArraysView K V). record { hasher = old.hasher; arrays = a }) same in
+      subst (λ (t : TableView K V H). Finds rule kind hash t r new) is finds

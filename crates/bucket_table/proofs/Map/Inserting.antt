@@ -3,6 +3,7 @@ use Rattle.bucket_table.proofs.Words.{ArraysView, Bool, BucketView, Err, IsEquiv
 use Rattle.bucket_table.proofs.Words.{KeepsPairs, MapState, Ok, OnErr, OnOk, Result, Side, TableView, ℕ, bucket_at, bucket_on, buckets_on}
 use Rattle.bucket_table.proofs.Words.{length, pairs_of, refl, slots_after_insertion, true, with_bucket, ◌%◌, ◌≡◌}
 use Rattle.bucket_table.specs.Map.Finding.{FindsBucket, FindsThen}
+use Rattle.bucket_table.specs.declared.hash_table.ResizeRule.{ResizeRule}
 use Rattle.bucket_table.specs.declared.hash_table.NotInserted.{NotInserted}
 use Rattle.bucket_table.specs.declared.hash_table.NotInserted.TheVariants.{Memory, Present}
 use Rattle.bucket_table.specs.Map.ByKey.{AnswersInsertion, HandsBack, Inserts, InsertsAt}
@@ -60,13 +61,14 @@ module _ {K V H A : Type 0} where
       (handed_back eq key value old between why keeps x.0, then_kept old between new keeps x.1)
 
   -- a bucket found for the hash of a key, and changed where a pair was put
-  pub found_then : (eq : K → K → Bool) (kind h n : ℕ) (keeps : ℕ → Bool) (key : K) (value : V) (old between new : TableView K V H)
-      (side : Side) (i : ℕ) (r : Result A (NotInserted K V)) → h ≡ n → FindsBucket kind h old side i between
+  pub found_then : {rule : ResizeRule} (eq : K → K → Bool) (kind h n : ℕ) (keeps : ℕ → Bool) (key : K) (value : V)
+      (old between new : TableView K V H)
+      (side : Side) (i : ℕ) (r : Result A (NotInserted K V)) → h ≡ n → FindsBucket rule kind h old side i between
       → AnswersInsertion eq key value (h % 256) kind keeps (bucket_on between.arrays side i) r
       → OnOk r (new ≡ with_bucket between side i
       (slots_after_insertion kind keeps (bucket_on between.arrays side i) (key, value) (h % 256)))
       → OnErr r (new ≡ between)
-      → FindsThen kind n old (λ answer table. InsertsAt kind keeps (key, value) (n % 256) table r answer new)
+      → FindsThen rule kind n old (λ answer table. InsertsAt kind keeps (key, value) (n % 256) table r answer new)
   found_then eq kind h n keeps key value old between new side i (Ok done) own found answer put same =
       rw (← own) (record { answer = Ok (side, i); between = between; found = found; done = put })
   found_then eq kind h n keeps key value old between new side i (Err (Present k v)) own found answer put same =
@@ -76,9 +78,9 @@ module _ {K V H A : Type 0} where
 
 module _ {K V H : Type 0} where
   -- and where none is found
-  pub refused_then : (kind n : ℕ) (keeps : ℕ → Bool) (pair : K × V) (old new : TableView K V H) (why : NotInserted K V)
+  pub refused_then : {rule : ResizeRule} (kind n : ℕ) (keeps : ℕ → Bool) (pair : K × V) (old new : TableView K V H) (why : NotInserted K V)
       → IsRefused kind n old new
-      → FindsThen kind n old (λ answer table. InsertsAt {A = ℕ} kind keeps pair (n % 256) table (Err why) answer new)
+      → FindsThen rule kind n old (λ answer table. InsertsAt {A = ℕ} kind keeps pair (n % 256) table (Err why) answer new)
   refused_then kind n keeps pair old new (Present k v) refused =
       record { answer = Err tt; between = new; found = refused; done = refl }
   refused_then kind n keeps pair old new (Memory k v) refused =

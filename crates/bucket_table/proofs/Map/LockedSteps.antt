@@ -1,11 +1,11 @@
 -- What is left of a table's arrays once one bucket is another one.
-use Rattle.bucket_table.proofs.Words.{ArraysView, AsksShrinking, BucketView, Err, IsPermutation-cons, IsPermutation-trans, Keeps}
-use Rattle.bucket_table.proofs.Words.{KeepsPairs, MapState, Ok, OnErr, OnOk, Place, ResizesIf, Result, Side, Slot, Some, TableView}
+use Rattle.bucket_table.proofs.Words.{ArraysView, BucketView, Err, IsPermutation-cons, IsPermutation-trans, Keeps}
+use Rattle.bucket_table.proofs.Words.{KeepsPairs, MapState, Ok, OnErr, OnOk, Option, Place, Result, Side, Slot, Some, TableView}
 use Rattle.bucket_table.proofs.Words.{TakesPair, ℕ, [], ap, arrays_with, bucket_at, bucket_on, buckets_on, empty_bucket, free}
 use Rattle.bucket_table.proofs.Words.{get_or-set_same, is_live, length, live, live_pair, pairs_in, refl, slot_in, subst, true, with_bucket}
 use Rattle.bucket_table.proofs.Words.{◌<◌, ◌∙◌, ◌∷◌, ◌≡◌}
 use Rattle.bucket_slots.specs.Slots.{marked as marked_slot}
-use Rattle.bucket_table.specs.Resize.Asking.{RemovesAndShrinks}
+use Rattle.bucket_table.specs.Resize.Asking.{RemovesAndShrinks, ShrinksBy}
 use Rattle.bucket_table.specs.Map.MapState.{state_of}
 use Rattle.bucket_table.proofs.Map.MapKept.{state_found}
 use Rattle.bucket_table.proofs.Views.SideChanges.{arrays_with-same, buckets_on-arrays_with}
@@ -35,14 +35,12 @@ module _ {K V : Type 0} where
   put_there a side i b within = rw (buckets_on-arrays_with a side i b) (get_or-set_same (buckets_on a side) i b empty_bucket within)
 
   -- and where that asks for it the arrays are shrunk
-  pub shrinks_after : (a : ArraysView K V) (side : Side) (i : ℕ) (b : BucketView K V) (new : ArraysView K V)
+  pub shrinks_after : (left : Option ℕ) (a : ArraysView K V) (side : Side) (i : ℕ) (b : BucketView K V) (new : ArraysView K V)
       → i < length (buckets_on a side)
-      → ResizesIf ((pairs_in (bucket_at (buckets_on (arrays_with a side i b) side) i) ≡ []) × AsksShrinking (arrays_with a side i b) i)
-      (arrays_with a side i b) new
-      → RemovesAndShrinks a side i b new
-  shrinks_after a side i b new within h =
-      subst (λ (x : BucketView K V). ResizesIf ((pairs_in x ≡ []) × AsksShrinking (arrays_with a side i b) i) (arrays_with a side i b) new)
-      (put_there a side i b within) h
+      → ShrinksBy left (pairs_in (bucket_at (buckets_on (arrays_with a side i b) side) i) ≡ []) i (arrays_with a side i b) new
+      → RemovesAndShrinks left a side i b new
+  shrinks_after left a side i b new within h =
+      subst (λ (x : BucketView K V). ShrinksBy left (pairs_in x ≡ []) i (arrays_with a side i b) new) (put_there a side i b within) h
 
 module _ {K V H : Type 0} where
   -- a bucket that is another one, and one that is the same

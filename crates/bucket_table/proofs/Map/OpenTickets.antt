@@ -1,15 +1,17 @@
 -- The open tickets stay: what becomes of the arrays says so, call by call.
-use Rattle.bucket_table.proofs.Words.{ArraysView, Bool, BucketView, Current, Err, KeepsOpenTickets, Ok, Option, Place, ResizesIf, Result}
-use Rattle.bucket_table.proofs.Words.{ShrinksThenPasses, Side, TableView, ℕ, arrays_with, cases_lt, false, inl, inr, refl, true, ◌+◌, ◌-◌}
+use Rattle.bucket_table.proofs.Words.{ArraysView, Bool, BucketView, Current, Err, KeepsOpenTickets, None, Ok, Option, Place, ResizesIf}
+use Rattle.bucket_table.proofs.Words.{Result, ShrinksThenPasses, Side, Some, TableView, ℕ, arrays_with, bucket_on, cases_lt, false, inl, inr, refl, true, ◌+◌, ◌-◌}
 use Rattle.bucket_table.specs.Map.ByKey.{ChangesAt, InsertsAt, PreparesThen, ShrinksAt}
 use Rattle.bucket_table.specs.Map.Finding.{Finds, FindsThen}
 use Rattle.bucket_table.specs.Resize.Resizing.{Releases, Reserves, Resizes, TriesResize, with_minimum}
+use Rattle.bucket_table.specs.declared.hash_table.ResizeRule.{ResizeRule}
 use Rattle.bucket_table.specs.declared.arrays.Missing.{Missing}
 use Rattle.bucket_table.specs.declared.hash_table.NotInserted.{NotInserted}
 use Rattle.bucket_table.specs.declared.hash_table.NotInserted.TheVariants.{Memory, Present}
 use Rattle.bucket_table.specs.Map.Putting.{EvictsAt}
 use Rattle.bucket_table.specs.Map.Counting.{CountsAndResizes}
-use Rattle.bucket_table.specs.Resize.Asking.{RemovesAndShrinks}
+use Rattle.bucket_table.specs.Resize.Asking.{RemovesAndShrinks, ShrinksBy}
+use Rattle.bucket_table.proofs.Resize.Sparse.{shrinks_keep}
 use Rattle.bucket_table.proofs.Rehash.TicketSteps.{bag_set, bag_with}
 use Rattle.bucket_table.proofs.Views.Keeping.{bag_both, bag_same}
 
@@ -29,10 +31,15 @@ module _ {K V : Type 0} where
   bag_resized_if old new (inl did) = bag_resized old new did.1
   bag_resized_if old new (inr stays) = rw stays.1 (bag_same old.tickets)
 
-  pub bag_shrunk : (old : ArraysView K V) (side : Side) (i : ℕ) (b : BucketView K V) (new : ArraysView K V)
-      → RemovesAndShrinks old side i b new → KeepsOpenTickets old.tickets new.tickets
-  bag_shrunk old side i b new r =
-      bag_both old.tickets (arrays_with old side i b).tickets new.tickets (bag_with old side i b) (bag_resized_if _ new r)
+  bag_by : (left : Option ℕ) (Emptied : Type 0) (index : ℕ) (old new : ArraysView K V) → ShrinksBy left Emptied index old new
+      → KeepsOpenTickets old.tickets new.tickets
+  bag_by None Emptied index old new r = bag_resized_if old new r
+  bag_by (Some pairs) Emptied index old new r = (shrinks_keep pairs old new r).open_tickets
+
+  pub bag_shrunk : (left : Option ℕ) (old : ArraysView K V) (side : Side) (i : ℕ) (b : BucketView K V) (new : ArraysView K V)
+      → RemovesAndShrinks left old side i b new → KeepsOpenTickets old.tickets new.tickets
+  bag_shrunk left old side i b new r =
+      bag_both old.tickets (arrays_with old side i b).tickets new.tickets (bag_with old side i b) (bag_by left _ i _ new r)
 
   pub bag_reserved : (additional : ℕ) (old : ArraysView K V) (answer : ℕ) (new : ArraysView K V) → Reserves additional old answer new
       → KeepsOpenTickets old.tickets new.tickets
@@ -71,15 +78,16 @@ module _ {K V H : Type 0} where
     changed_at change true old new (side, i, at, stands, is) = bag_set old new side i _ is
     changed_at change false old new same = rw same (bag_same old.arrays.tickets)
 
-    shrunk_at : (change : BucketView K V → Place → BucketView K V) (found : Bool) (old new : TableView K V H)
-        → ShrinksAt wants change found old new → KeepsOpenTickets old.arrays.tickets new.arrays.tickets
-    shrunk_at change true old new (side, i, at, stands, is) = bag_shrunk old.arrays side i _ new.arrays is
-    shrunk_at change false old new same = rw same (bag_same old.arrays.tickets)
+    shrunk_at : (change : BucketView K V → Place → BucketView K V) (left : Option ℕ) (found : Bool) (old new : TableView K V H)
+        → ShrinksAt wants change left found old new → KeepsOpenTickets old.arrays.tickets new.arrays.tickets
+    shrunk_at change left true old new (side, i, at, stands, is) =
+        bag_shrunk left old.arrays side i (change (bucket_on old.arrays side i) at) new.arrays is
+    shrunk_at change left false old new same = rw same (bag_same old.arrays.tickets)
 
   evicted_from : {E : Type 0} (hash : ℕ) (old : TableView K V H) (r : Result (Option (K × V)) E) (new : TableView K V H)
       → EvictsAt hash old r new → KeepsOpenTickets old.arrays.tickets new.arrays.tickets
-  evicted_from hash old (Ok gone) new (inl (none, nothing, same)) = rw same (bag_same old.arrays.tickets)
-  evicted_from hash old (Ok gone) new (inr (ready, i, home, goes, is)) = bag_set old new Current i _ is
+  evicted_from hash old (Ok evicted) new (inl (none, nothing, same)) = rw same (bag_same old.arrays.tickets)
+  evicted_from hash old (Ok evicted) new (inr (ready, i, home, goes, is)) = bag_set old new Current i _ is
   evicted_from hash old (Err e) new (unready, same) = rw same (bag_same old.arrays.tickets)
 
   module _ (kind hash : ℕ) (old new : TableView K V H) where
@@ -90,27 +98,28 @@ module _ {K V H : Type 0} where
         bag_then kind hash old new _ p (λ between is. changed_at wants change found between new is)
 
     -- also where the arrays may shrink then
-    pub bag_taken : (wants : K → Bool) (change : BucketView K V → Place → BucketView K V) (found : Bool)
-        → PreparesThen kind hash old (λ between. ShrinksAt wants change found between new)
+    pub bag_taken : (wants : K → Bool) (change : BucketView K V → Place → BucketView K V) (left : Option ℕ) (found : Bool)
+        → PreparesThen kind hash old (λ between. ShrinksAt wants change left found between new)
         → KeepsOpenTickets old.arrays.tickets new.arrays.tickets
-    bag_taken wants change found p = bag_then kind hash old new _ p (λ between is. shrunk_at wants change found between new is)
+    bag_taken wants change left found p =
+        bag_then kind hash old new _ p (λ between is. shrunk_at wants change left found between new is)
 
     pub bag_evicted : {E : Type 0} (r : Result (Option (K × V)) E) → PreparesThen kind hash old (λ between. EvictsAt hash between r new)
         → KeepsOpenTickets old.arrays.tickets new.arrays.tickets
     bag_evicted r p = bag_then kind hash old new _ p (λ between is. evicted_from hash between r new is)
 
-  bag_finds : {E : Type 0} (kind hash : ℕ) (old : TableView K V H) (r : Result (Side × ℕ) E) (new : TableView K V H)
-      → Finds kind hash old r new → KeepsOpenTickets old.arrays.tickets new.arrays.tickets
-  bag_finds kind hash old (Ok found) new finds = finds.kept.open_tickets
-  bag_finds kind hash old (Err e) new refused = refused.prepared.kept.keeps.open_tickets
+  bag_finds : {E : Type 0} (rule : ResizeRule) (kind hash : ℕ) (old : TableView K V H) (r : Result (Side × ℕ) E) (new : TableView K V H)
+      → Finds rule kind hash old r new → KeepsOpenTickets old.arrays.tickets new.arrays.tickets
+  bag_finds rule kind hash old (Ok found) new finds = finds.kept.open_tickets
+  bag_finds rule kind hash old (Err e) new refused = refused.prepared.kept.keeps.open_tickets
 
-  bag_found : (kind hash : ℕ) (old new : TableView K V H) (Then : Result (Side × ℕ) (Unit {0}) → TableView K V H → Type 0)
-      → FindsThen kind hash old Then
+  bag_found : {rule : ResizeRule} (kind hash : ℕ) (old new : TableView K V H)
+      (Then : Result (Side × ℕ) (Unit {0}) → TableView K V H → Type 0) → FindsThen rule kind hash old Then
       → ((answer : Result (Side × ℕ) (Unit {0})) (between : TableView K V H) → Then answer between
       → KeepsOpenTickets between.arrays.tickets new.arrays.tickets)
       → KeepsOpenTickets old.arrays.tickets new.arrays.tickets
   bag_found kind hash old new Then f after =
-      bag_both old.arrays.tickets f.between.arrays.tickets new.arrays.tickets (bag_finds kind hash old f.answer f.between f.found)
+      bag_both old.arrays.tickets f.between.arrays.tickets new.arrays.tickets (bag_finds _ kind hash old f.answer f.between f.found)
       (after f.answer f.between f.done)
 
   inserted_at : {A : Type 0} (kind : ℕ) (keeps : ℕ → Bool) (pair : K × V) (byte : ℕ) (old : TableView K V H)
@@ -123,8 +132,8 @@ module _ {K V H : Type 0} where
   inserted_at kind keeps pair byte old (Err (Memory k v)) (Err e) new same = rw same (bag_same old.arrays.tickets)
 
   module _ (kind hash : ℕ) (old new : TableView K V H) where
-    pub bag_inserted : {A : Type 0} (keeps : ℕ → Bool) (pair : K × V) (byte : ℕ) (r : Result A (NotInserted K V))
-        → FindsThen kind hash old (λ answer between. InsertsAt kind keeps pair byte between r answer new)
+    pub bag_inserted : {rule : ResizeRule} {A : Type 0} (keeps : ℕ → Bool) (pair : K × V) (byte : ℕ) (r : Result A (NotInserted K V))
+        → FindsThen rule kind hash old (λ answer between. InsertsAt kind keeps pair byte between r answer new)
         → KeepsOpenTickets old.arrays.tickets new.arrays.tickets
     bag_inserted keeps pair byte r f =
         bag_found kind hash old new _ f (λ answer between is. inserted_at kind keeps pair byte between r answer new is)

@@ -7,6 +7,7 @@ use Rattle.bucket_table.proofs.Words.{slots_touched, subst, true, with_bucket, �
 use Rattle.bucket_slots.specs.Placing.{place_for_next, slots_with}
 use Rattle.bucket_table.specs.Map.Finding.{FindsBucket, FindsThen}
 use Rattle.bucket_table.specs.Map.Putting.{Goes, Puts, PutsAt, PutsIn, slots_left, slots_put}
+use Rattle.bucket_table.specs.declared.hash_table.ResizeRule.TheVariants.{Sampled}
 use Rattle.bucket_table.specs.declared.hash_table.NotInserted.{NotInserted}
 use Rattle.bucket_table.specs.declared.hash_table.NotInserted.TheVariants.{Memory, Present}
 use Rattle.bucket_table.specs.Map.ByKey.{Evicts}
@@ -160,9 +161,9 @@ module _ {K V H : Type 0} where
   -- a bucket found for the hash of a key, and the pair put there
   pub found_put : (eq : K → K → Bool) (kind h n : ℕ) (keeps : Bool) (key : K) (value : V) (old between new : TableView K V H)
       (side : Side) (i : ℕ) (r : Result (Option (K × V)) (NotInserted K V)) (left : BucketView K V) → h ≡ n
-      → FindsBucket kind h old side i between → PutsIn eq keeps key value (h % 256) (bucket_on between.arrays side i) r left
+      → FindsBucket Sampled kind h old side i between → PutsIn eq keeps key value (h % 256) (bucket_on between.arrays side i) r left
       → new ≡ with_bucket between side i left
-      → FindsThen kind n old (λ answer table. PutsAt keeps (key, value) (n % 256) table r answer new)
+      → FindsThen Sampled kind n old (λ answer table. PutsAt keeps (key, value) (n % 256) table r answer new)
   found_put eq kind h n keeps key value old between new side i (Ok out) left own found x is =
       let put = is ∙ ap (λ (b : BucketView K V). with_bucket between side i b) x.2 in
       rw (← own) (record { answer = Ok (side, i); between = between; found = found; done = (x.1, put) })
@@ -173,7 +174,7 @@ module _ {K V H : Type 0} where
 
   -- no bucket found, and so no pair put
   pub refused_put : (kind n : ℕ) (keeps : Bool) (pair : K × V) (old new : TableView K V H) (why : NotInserted K V)
-      → IsRefused kind n old new → FindsThen kind n old (λ answer table. PutsAt keeps pair (n % 256) table (Err why) answer new)
+      → IsRefused kind n old new → FindsThen Sampled kind n old (λ answer table. PutsAt keeps pair (n % 256) table (Err why) answer new)
   refused_put kind n keeps pair old new (Present k v) refused =
       record { answer = Err tt; between = new; found = refused; done = refl }
   refused_put kind n keeps pair old new (Memory k v) refused = record { answer = Err tt; between = new; found = refused; done = refl }

@@ -13,15 +13,15 @@ use Rattle.bucket_table.proofs.Map.TakeSteps.{absent_before, same_taken, then_ta
 
 module _ {K V H : Type 0} {eq : K → K → Bool} (laws : IsEquivalence eq) (hash : H → K → ℕ) (kind : ℕ) (wants : K → Bool) (n : ℕ)
     (hasher : H) (old : TableView K V H) (a : ArraysView K V) (one : IsOneMap eq (hash hasher) a)
-    (prepared : IsPrepared kind n old (record { hasher = hasher; arrays = a })) where
+    (prepared : IsPrepared kind n old (record { hasher = hasher; arrays = a })) (left : Option ℕ) where
   -- what taking a wanted pair leaves of a table whose arrays were a after a unit was worked
   pub record IsTaken (r : Option (K × V)) (new : ArraysView K V) : Type 0 where
     pub one_map : IsOneMap eq (hash hasher) new
     pub map : Takes wants (state_of kind old) r (state_of kind (record { hasher = hasher; arrays = new }))
     pub arrays : PreparesThen kind n old (λ between.
-        ShrinksAt wants slots_without (is_some r) between (record { hasher = hasher; arrays = new }))
+        ShrinksAt wants slots_without left (is_some r) between (record { hasher = hasher; arrays = new }))
 
-  pub taken_from : (side : Side) (pair : K × V) (new : ArraysView K V) → TakesFrom wants side a pair new → IsTaken (Some pair) new
+  pub taken_from : (side : Side) (pair : K × V) (new : ArraysView K V) → TakesFrom left wants side a pair new → IsTaken (Some pair) new
   taken_from side pair new t =
       let left = takes laws hash kind side t.index one t.stands.within t.at pair t.taken new t.kept t.placed in
       record {
@@ -39,7 +39,7 @@ module _ {K V H : Type 0} {eq : K → K → Bool} (laws : IsEquivalence eq) (has
 
   -- the current array comes last, so where it has none either no key is wanted
   last : (r : Option (K × V)) (new : ArraysView K V) → ((own : K) → wants own ≡ true → hash hasher own ≡ n)
-      → pair_wanted wants (n % 256) (home_bucket n a.linked) ≡ None → TakesOn wants n Current a r new → IsTaken r new
+      → pair_wanted wants (n % 256) (home_bucket n a.linked) ≡ None → TakesOn left wants n Current a r new → IsTaken r new
   last (Some pair) new alike absent t = taken_from Current pair new t
   last None new alike absent (same, none) =
       rw same (record {
@@ -54,7 +54,7 @@ module _ {K V H : Type 0} {eq : K → K → Bool} (laws : IsEquivalence eq) (has
 
   -- after the old one had none, and stayed as it was
   pub taken_last : (r : Option (K × V)) (b new : ArraysView K V) (later : K → Bool) → ((own : K) → wants own ≡ true → hash hasher own ≡ n)
-      → later ≡ wants → TakesOn wants n Old a None b → TakesOn later n Current b r new → IsTaken r new
+      → later ≡ wants → TakesOn left wants n Old a None b → TakesOn left later n Current b r new → IsTaken r new
   taken_last r b new later alike same (kept, absent) t = last r new alike absent
-      (subst (λ (c : ArraysView K V). TakesOn wants n Current c r new) kept
-      (subst (λ (test : K → Bool). TakesOn test n Current b r new) same t))
+      (subst (λ (c : ArraysView K V). TakesOn left wants n Current c r new) kept
+      (subst (λ (test : K → Bool). TakesOn left test n Current b r new) same t))

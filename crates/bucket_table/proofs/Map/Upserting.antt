@@ -6,6 +6,7 @@ use Rattle.bucket_table.specs.Map.Finding.{FindsBucket, FindsThen}
 use Rattle.bucket_slots.specs.Digested.{UpsertsIn}
 use Rattle.bucket_table.specs.Map.ByKey.{Upserts, UpsertsAt}
 use Rattle.bucket_table.specs.Map.MapState.{state_of}
+use Rattle.bucket_table.specs.declared.hash_table.ResizeRule.{ResizeRule}
 use Rattle.bucket_table.proofs.Map.Inserting.{inserted_where_absent}
 use Rattle.bucket_table.proofs.Map.KeySteps.{stands_found}
 use Rattle.bucket_table.proofs.Map.LockedSteps.{with_own}
@@ -47,10 +48,11 @@ module _ {K V H : Type 0} where
       (x.0, absent_before (λ own. eq own key) old between keeps x.1, then_kept old between new keeps x.2)
 
   -- a bucket found for the hash of a key, and the pair put there or its value written
-  pub found_upserted : (eq : K → K → Bool) (kind h n : ℕ) (keeps : ℕ → Bool) (key : K) (value : V) (old between new : TableView K V H)
-      (side : Side) (i : ℕ) (r : Result (Option V) (K × V)) (left : BucketView K V) → h ≡ n → FindsBucket kind h old side i between
+  pub found_upserted : {rule : ResizeRule} (eq : K → K → Bool) (kind h n : ℕ) (keeps : ℕ → Bool) (key : K) (value : V)
+      (old between new : TableView K V H)
+      (side : Side) (i : ℕ) (r : Result (Option V) (K × V)) (left : BucketView K V) → h ≡ n → FindsBucket rule kind h old side i between
       → UpsertsIn eq key value (h % 256) kind keeps (bucket_on between.arrays side i) r left → new ≡ with_bucket between side i left
-      → FindsThen kind n old (λ answer table. UpsertsAt eq kind keeps key value (n % 256) table r answer new)
+      → FindsThen rule kind n old (λ answer table. UpsertsAt eq kind keeps key value (n % 256) table r answer new)
   found_upserted eq kind h n keeps key value old between new side i (Ok None) left own found x is =
       let put = is ∙ ap (λ (b : BucketView K V). with_bucket between side i b) x.1 in
       rw (← own) (record { answer = Ok (side, i); between = between; found = found; done = put })

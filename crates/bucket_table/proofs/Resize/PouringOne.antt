@@ -8,11 +8,13 @@ use Rattle.bucket_table.specs.Map.Finding.{Finds, FindsThen, ReadiesThenGrows}
 use Rattle.bucket_table.specs.Map.Putting.{Goes, Puts, PutsAt, slots_left, slots_put}
 use Rattle.bucket_table.specs.Resize.Growing.{Grows, WriterAsksGrowth}
 use Rattle.bucket_table.specs.Resize.Renewing.{Awaits, Pours}
+use Rattle.bucket_table.specs.declared.hash_table.ResizeRule.TheVariants.{Sampled}
 use Rattle.bucket_table.specs.declared.hash_table.NotInserted.{NotInserted}
 use Rattle.bucket_table.specs.declared.hash_table.NotInserted.TheVariants.{Memory, Present}
 use Rattle.std.proofs.lemmas.List.Elements.{All-contains}
 use Rattle.std.proofs.lemmas.Map.Keys.{IsDistinct-head}
 use Rattle.bucket_table.specs.Map.MapState.{state_of}
+use Rattle.bucket_table.proofs.Map.Finding.{readies_sampled}
 
 module _ {K V : Type 0} where
   -- no growth was done beside no old array
@@ -101,12 +103,12 @@ module _ {K V H : Type 0} {eq : K → K → Bool} (laws : IsEquivalence eq) (has
       (All-from_recursion _ (pairs_of old.arrays) (apart_all (pairs_of old.arrays) apart)) there
 
   poured : (result : Result (Option (K × V)) (NotInserted K V)) (answer : Result (Side × ℕ) (Unit {0})) (between : TableView K V H)
-      → Awaits eq old ((key, value) ∷ []) → Finds kind (hash old.hasher key) old answer between
+      → Awaits eq old ((key, value) ∷ []) → Finds Sampled kind (hash old.hasher key) old answer between
       → PutsAt true (key, value) byte between result answer new
       → Puts eq key value (state_of kind old) result (state_of kind new) → Pours hash old ((key, value) ∷ []) new
   poured (Ok out) (Ok (side, index)) between awaits found done puts =
       let stays = readied kind (hash old.hasher key) old.arrays between.arrays side index cache awaits.stands awaits.alone awaits.full
-      found.found in
+      (readies_sampled _ _ _ _ _ _ found.found) in
       let hasher : between.hasher ≡ old.hasher = ap (λ (m : MapState K V H). m.hasher) found.map.others in
       placed_on side index between out stays.1 (same_table between old hasher stays.0) found.home done puts
   poured (Ok out) (Err refused) between awaits found done puts = absurd done
@@ -120,6 +122,6 @@ module _ {K V H : Type 0} {eq : K → K → Bool} (laws : IsEquivalence eq) (has
   -- the pair is put into its home
   pub pours_one : (result : Result (Option (K × V)) (NotInserted K V)) → Awaits eq old ((key, value) ∷ [])
       → Puts eq key value (state_of kind old) result (state_of kind new)
-      → FindsThen kind (hash old.hasher key) old (λ answer between. PutsAt true (key, value) byte between result answer new)
+      → FindsThen Sampled kind (hash old.hasher key) old (λ answer between. PutsAt true (key, value) byte between result answer new)
       → Pours hash old ((key, value) ∷ []) new
   pours_one result awaits puts found = poured result found.answer found.between awaits found.found found.done puts

@@ -114,12 +114,12 @@ module _ {K V H : Type 0} (wants : K → Bool) (change : BucketView K V → Plac
       × (new ≡ with_bucket old side index (change (bucket_on old.arrays side index) at))
   ChangesAt false old new = new ≡ old
 
-  -- where a wanted pair was found its place is changed, and where the bucket has no live pair then the arrays may shrink by the plan;
-  -- else all stays
-  abbrev pub ShrinksAt : Bool → TableView K V H → TableView K V H → Type 0
-  ShrinksAt true old new = (side : Side) × (index : ℕ) × (at : Place) × StandsAt wants old.arrays side index at
-      × RemovesAndShrinks old.arrays side index (change (bucket_on old.arrays side index) at) new.arrays
-  ShrinksAt false old new = new ≡ old
+  -- where a wanted pair was found its place is changed, and where the bucket has no live pair then the arrays may shrink, by the plan or
+  -- by the number of pairs that are left; else all stays
+  abbrev pub ShrinksAt : Option ℕ → Bool → TableView K V H → TableView K V H → Type 0
+  ShrinksAt left true old new = (side : Side) × (index : ℕ) × (at : Place) × StandsAt wants old.arrays side index at
+      × RemovesAndShrinks left old.arrays side index (change (bucket_on old.arrays side index) at) new.arrays
+  ShrinksAt left false old new = new ≡ old
 
 -- where a wanted pair was found its value is another one, and nothing else is; else all stays
 abbrev pub WritesAt : {K V H : Type 0} → (K → Bool) → Bool → TableView K V H → TableView K V H → Type 0

@@ -1,14 +1,34 @@
 -- A count of pairs, and what counting does to a table's arrays.
-use Rattle.std.specs.Prelude.{ℕ, ◌+◌, ◌-◌, ◌*◌, ◌^◌, ◌≡◌, ◌≤◌, Bool, List, [], Option, Some, None, Result, Ok, Err, flat_map, length, min}
+use Rattle.std.specs.Prelude.{ℕ, ◌+◌, ◌-◌, ◌*◌, ◌^◌, ◌≡◌, ◌<◌, ◌≤◌, Bool, IsTrue, List, [], Option, Some, None, Result}
+use Rattle.std.specs.Prelude.{Ok, Err, flat_map, length, min}
 use Rattle.bucket_slots.specs.BucketView.{BucketView, flattened}
 use Rattle.bucket_slots.specs.Slots.{live_pairs}
 use Rattle.bucket_table.specs.Views.ArraysView.{ArraysView, IsOneMap, entries_of, pairs_of}
 use Rattle.bucket_table.specs.Resize.Asking.{ResizesIf}
 use Rattle.bucket_table.specs.Views.Keeping.{KeepsArrays}
+use Rattle.bucket_table.specs.declared.hash_table.ResizeRule.{ResizeRule}
+use Rattle.bucket_table.specs.declared.hash_table.ResizeRule.TheVariants.{Counted, Sampled}
 
 -- how many there are, cut to what a number of 64 bits holds
 abbrev pub counted_to : {A : Type 0} → List A → ℕ
 counted_to xs = min (length xs) (2 ^ 64 - 1)
+
+-- how many pairs a removal leaves, where the rule of a resize goes by it
+abbrev pub pairs_left : {K V : Type 0} → ResizeRule → ArraysView K V → Option ℕ
+pairs_left Sampled arrays = None
+pairs_left Counted arrays = Some (counted_to (pairs_of arrays) - 1)
+
+-- a number is how many are left, if they are counted
+abbrev pub IsRest : {A : Type 0} → Bool → ℕ → List A → Type 0
+IsRest counted rest left = IsTrue counted → rest ≡ length left
+
+-- a number is at least how many are left, if they are counted
+abbrev pub IsMost : {A : Type 0} → Bool → ℕ → List A → Type 0
+IsMost counted most left = IsTrue counted → length left ≤ most
+
+-- a number is one less than another, if that isn't 0
+abbrev pub IsOneLess : ℕ → ℕ → Type 0
+IsOneLess rest less = 0 < rest → less ≡ rest - 1
 
 -- the arrays are one map, and the number is that of its pairs
 pub record IsCountedMap {K V : Type 0} (eq : K → K → Bool) (hash : K → ℕ) (arrays : ArraysView K V) (count : ℕ) : Type 0 where

@@ -1,9 +1,10 @@
 -- What finding a bucket for a writer does to a table.
-use Rattle.std.specs.Prelude.{ℕ, ◌≡◌, ◌<◌, Result, Ok, Err, length}
+use Rattle.std.specs.Prelude.{ℕ, ◌≡◌, ◌<◌, ◌⊎◌, Result, Ok, Err, length}
 use Rattle.bucket_slots.specs.Homes.{IsHome}
 use Rattle.bucket_table.specs.Views.ArraysView.{AreSourcesKilled, ArraysView, TableView}
 use Rattle.bucket_table.specs.Resize.Asking.{ResizesIf}
 use Rattle.bucket_table.specs.Resize.Growing.{Grows, WriterAsksGrowth}
+use Rattle.bucket_table.specs.Resize.Overfull.{GrowsOverfull}
 use Rattle.bucket_table.specs.Map.MapState.{KeepsPairs, state_of}
 use Rattle.bucket_table.specs.Map.Preparing.{HomeWantsMemory}
 use Rattle.bucket_table.specs.Views.Keeping.{Keeps, KeepsArrays}
@@ -13,6 +14,9 @@ use Rattle.bucket_table.specs.Resize.Resizing.{MakesArray}
 use Rattle.bucket_table.specs.Views.Sides.{buckets_on}
 use Rattle.bucket_table.specs.Rehash.Units.{WorksUnits}
 use Rattle.bucket_table.specs.declared.arrays.side.Side.{Side}
+use Rattle.bucket_table.specs.declared.arrays.side.Side.TheVariants.{Old}
+use Rattle.bucket_table.specs.declared.hash_table.ResizeRule.{ResizeRule}
+use Rattle.bucket_table.specs.declared.hash_table.ResizeRule.TheVariants.{Counted}
 
 -- the arrays are made ready for a current bucket: a first array where there is none, and beside an old one a unit is
 -- worked and each source of the bucket moved
@@ -28,6 +32,11 @@ unfoldable pub ReadiesThenGrows : {K V : Type 0} → ℕ → ℕ → ArraysView 
 ReadiesThenGrows {K} {V} kind hash old side index new = (between : ArraysView K V) × MakesReady old index between
     × ResizesIf (WriterAsksGrowth kind hash between index) between new × Grows side between new
 
+-- or, where the rule is to grow for an overfull home, they grew since it is one, and the side is that of the old array
+unfoldable pub ReadiesOrGrows : {K V : Type 0} → ResizeRule → ℕ → ℕ → ArraysView K V → Side → ℕ → ArraysView K V → Type 0
+ReadiesOrGrows {K} {V} rule kind hash old side index new =
+    ReadiesThenGrows kind hash old side index new ⊎ ((rule ≡ Counted) × (side ≡ Old) × GrowsOverfull hash old new)
+
 -- no bucket is found for a hash: a unit was worked, and allocation failed for a source of its home; without an old array there
 -- was no current one either, and all stays
 pub record FindsNone {K V : Type 0} (hash : ℕ) (old new : ArraysView K V) : Type 0 where
@@ -37,23 +46,23 @@ pub record FindsNone {K V : Type 0} (hash : ℕ) (old new : ArraysView K V) : Ty
   pub home : 0 < length new.current → HomeWantsMemory hash old new
 
 -- a hash's home in the array of its side is found for a writer, and may be locked; the map, the tombstones and the open tickets stay
-pub record FindsBucket {K V H : Type 0} (kind hash : ℕ) (old : TableView K V H) (side : Side) (index : ℕ)
+pub record FindsBucket {K V H : Type 0} (rule : ResizeRule) (kind hash : ℕ) (old : TableView K V H) (side : Side) (index : ℕ)
     (new : TableView K V H) : Type 0 where
   pub map : KeepsPairs (state_of kind old) (state_of kind new)
   pub kept : Keeps old.arrays new.arrays
   pub home : IsHome (length (buckets_on new.arrays side)) hash index
   pub locked : IsLocked new.arrays side index
-  pub found : ReadiesThenGrows kind hash old.arrays side index new.arrays
+  pub found : ReadiesOrGrows rule kind hash old.arrays side index new.arrays
 
 -- what looking for a writer's bucket answers, its side and its index, and what it leaves; if it fails, the table is prepared
-abbrev pub Finds : {K V H E : Type 0} → ℕ → ℕ → TableView K V H → Result (Side × ℕ) E → TableView K V H → Type 0
-Finds kind hash old (Ok found) new = FindsBucket kind hash old found.0 found.1 new
-Finds kind hash old (Err refused) new = IsRefused kind hash old new
+abbrev pub Finds : {K V H E : Type 0} → ResizeRule → ℕ → ℕ → TableView K V H → Result (Side × ℕ) E → TableView K V H → Type 0
+Finds rule kind hash old (Ok found) new = FindsBucket rule kind hash old found.0 found.1 new
+Finds rule kind hash old (Err refused) new = IsRefused kind hash old new
 
 -- a writer's bucket is looked for, and then this is done
-pub record FindsThen {K V H : Type 0} (kind hash : ℕ) (old : TableView K V H)
+pub record FindsThen {K V H : Type 0} (rule : ResizeRule) (kind hash : ℕ) (old : TableView K V H)
     (Then : Result (Side × ℕ) (Unit {0}) → TableView K V H → Type 0) : Type 0 where
   pub answer : Result (Side × ℕ) (Unit {0})
   pub between : TableView K V H
-  pub found : Finds kind hash old answer between
+  pub found : Finds rule kind hash old answer between
   pub done : Then answer between

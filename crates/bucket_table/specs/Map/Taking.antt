@@ -12,22 +12,23 @@ use Rattle.bucket_table.specs.Views.Keeping.{Keeps}
 use Rattle.bucket_table.specs.Views.Sides.{arrays_with, bucket_on, buckets_on}
 use Rattle.bucket_table.specs.declared.arrays.side.Side.{Side}
 
--- the pair of a live slot, whose key is wanted, is taken out, and where no live pair is left in the bucket the arrays may shrink
-pub record TakesFrom {K V : Type 0} (wants : K → Bool) (side : Side) (old : ArraysView K V) (pair : K × V)
+-- the pair of a live slot, whose key is wanted, is taken out, and where no live pair is left in the bucket the arrays may shrink, by the
+-- number of pairs that are left where it is given
+pub record TakesFrom {K V : Type 0} (left : Option ℕ) (wants : K → Bool) (side : Side) (old : ArraysView K V) (pair : K × V)
     (new : ArraysView K V) : Type 0 where
   pub index : ℕ
   pub at : Place
   pub stands : StandsAt wants old side index at
   pub taken : live_pair (slot_in (bucket_on old side index) at) ≡ Some pair
-  pub asked : RemovesAndShrinks old side index (slots_without (bucket_on old side index) at) new
+  pub asked : RemovesAndShrinks left old side index (slots_without (bucket_on old side index) at) new
   pub kept : Keeps (arrays_with old side index (slots_without (bucket_on old side index) at)) new
   pub placed : (hash : K → ℕ) → ArePlaced hash (arrays_with old side index (slots_without (bucket_on old side index) at))
       → ArePlaced hash new
 
 -- a wanted pair is taken out of the home on one side; there is no answer exactly where that home has none, and all stays
-abbrev pub TakesOn : {K V : Type 0} → (K → Bool) → ℕ → Side → ArraysView K V → Option (K × V) → ArraysView K V → Type 0
-TakesOn wants hash side old (Some pair) new = TakesFrom wants side old pair new
-TakesOn wants hash side old None new =
+abbrev pub TakesOn : {K V : Type 0} → Option ℕ → (K → Bool) → ℕ → Side → ArraysView K V → Option (K × V) → ArraysView K V → Type 0
+TakesOn left wants hash side old (Some pair) new = TakesFrom left wants side old pair new
+TakesOn left wants hash side old None new =
     (new ≡ old) × (pair_wanted wants (hash % 256) (home_bucket hash (buckets_on old side)) ≡ None)
 
 -- the pair of the first wanted slot of a bucket of one side is taken out, and so many live pairs are left there

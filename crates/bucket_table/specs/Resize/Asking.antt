@@ -1,11 +1,12 @@
 -- When a resize is looked into near a bucket.
-use Rattle.std.specs.Prelude.{[], ℕ, ◌<◌, ◌≡◌, ◌⊎◌, length}
+use Rattle.std.specs.Prelude.{[], ℕ, ◌<◌, ◌≡◌, ◌⊎◌, Option, Some, None, length}
 use Rattle.bucket_slots.specs.BucketView.{BucketView, pairs_in}
 use Rattle.bucket_table.specs.Views.ArraysView.{ArraysView}
 use Rattle.bucket_table.specs.Resize.ResizePlan.{slots_of}
 use Rattle.bucket_table.specs.Views.Sides.{arrays_with}
 use Rattle.bucket_table.specs.Resize.Resizing.{Resizes}
 use Rattle.bucket_table.specs.Resize.Sampling.{IsCrowded, IsDeserted, live_counts}
+use Rattle.bucket_table.specs.Resize.Sparse.{IsSparse, ShrinksIf}
 use Rattle.bucket_table.specs.declared.arrays.side.Side.{Side}
 
 -- a current array stands and no old one, and near the bucket many slots are live
@@ -25,8 +26,13 @@ pub record AsksShrinking {K V : Type 0} (arrays : ArraysView K V) (index : ℕ) 
 abbrev pub ResizesIf : {K V : Type 0} → Type 0 → ArraysView K V → ArraysView K V → Type 0
 ResizesIf Asked old new = (Asked × Resizes old new) ⊎ ((Asked → ⊥) × (new ≡ old))
 
--- a bucket of one side is another one now; where it has no live pair, and a shrinking is asked for near
--- it, the arrays follow the plan or stay if allocation fails; else they stay
-abbrev pub RemovesAndShrinks : {K V : Type 0} → ArraysView K V → Side → ℕ → BucketView K V → ArraysView K V → Type 0
-RemovesAndShrinks old side index bucket new =
-    ResizesIf ((pairs_in bucket ≡ []) × AsksShrinking (arrays_with old side index bucket) index) (arrays_with old side index bucket) new
+-- a removal shrinks the arrays where it emptied a bucket and that is asked for near the bucket, by the plan; where the number of pairs
+-- that are left is given, it has to agree; else they stay
+abbrev pub ShrinksBy : {K V : Type 0} → Option ℕ → Type 0 → ℕ → ArraysView K V → ArraysView K V → Type 0
+ShrinksBy None Emptied index old new = ResizesIf (Emptied × AsksShrinking old index) old new
+ShrinksBy (Some pairs) Emptied index old new = ShrinksIf (Emptied × (IsSparse pairs old × AsksShrinking old index)) pairs old new
+
+-- a bucket of one side is another one now, and where it has no live pair the arrays may shrink
+abbrev pub RemovesAndShrinks : {K V : Type 0} → Option ℕ → ArraysView K V → Side → ℕ → BucketView K V → ArraysView K V → Type 0
+RemovesAndShrinks pairs old side index bucket new =
+    ShrinksBy pairs (pairs_in bucket ≡ []) index (arrays_with old side index bucket) new

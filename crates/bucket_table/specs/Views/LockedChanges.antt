@@ -1,5 +1,5 @@
 -- What a call does to a locked bucket, and what it answers.
-use Rattle.std.specs.Prelude.{ℕ, ◌≡◌, Bool, Result, Ok, Err}
+use Rattle.std.specs.Prelude.{ℕ, ◌≡◌, Bool, None, Result, Ok, Err}
 use Rattle.std.specs.Borrow.{MutBor}
 use Rattle.std.specs.declared.cmp.PartialEq as equals
 use Rattle.std.specs.declared.default.Default as default
@@ -33,7 +33,7 @@ module _ {K V H L : Type 0} {TYPE : ℕ} {equal : equals.Ghosts K} {hashing : ke
   pub record ChangesThenShrinks (old : LockedBucket K V H L TYPE equal hashing listing fresh) (back : MutBor (TableView K V H))
       (change : BucketView K V → BucketView K V) : Type 0 where
     pub same_table : back.ghost_name ≡ old.table.ghost_name
-    pub arrays : RemovesAndShrinks old.table.now.arrays old.side old.index (change (bucket_in old)) back.now.arrays
+    pub arrays : RemovesAndShrinks None old.table.now.arrays old.side old.index (change (bucket_in old)) back.now.arrays
 
 -- where an inserted pair stands, in the first slot that is free then or made; if it fails, the pair, and no slot was free
 abbrev pub AnswersPlacing : {K V : Type 0} → ℕ → (ℕ → Bool) → K × V → ℕ → BucketView K V → Result Place (K × V) → BucketView K V → Type 0

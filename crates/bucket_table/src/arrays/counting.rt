@@ -1,15 +1,16 @@
 //! How many pairs the arrays have.
-ghost use Rattle.std.specs.Prelude.{◌≡◌, ◌*◌, ◌++◌, ℕ, [], length};
-ghost use Rattle.std.specs.Prelude.{if◌then◌else◌, is_ok, is_some};
+ghost use Rattle.std.specs.Prelude.{◌≡◌, ◌≢◌, ◌*◌, ◌-◌, ◌^◌, ◌++◌, ℕ, [], length};
+ghost use Rattle.std.specs.Prelude.{IsTrue, MatchOption, if◌then◌else◌, is_ok, is_some};
 ghost use Rattle.bucket_table.specs.Views.ArraysView.{ArePlaced, entries_of, pairs_of};
 ghost use Rattle.bucket_table.specs.Resize.Asking.{ResizesIf};
 ghost use Rattle.bucket_table.specs.Map.Counting.{CountsAfter, CountsAndResizes, IsHeldBy};
-ghost use Rattle.bucket_table.specs.Map.Counting.{counted_to, put_count};
+ghost use Rattle.bucket_table.specs.Map.Counting.{IsOneLess, counted_to, put_count};
 ghost use Rattle.bucket_table.specs.Views.Keeping.{Keeps};
 ghost use Rattle.bucket_table.specs.Rehash.Units.{WorksUnits};
 
 use super::Arrays;
 use crate::key_hash::KeyHash;
+use crate::pair_count::PairCount;
 use bucket_slots::bucket::BUCKET_LEN;
 use bucket_slots::lru::LruList;
 
@@ -77,30 +78,54 @@ impl<K, V, L: LruList, const TYPE: u8> Arrays<K, V, L, TYPE> {
         (self.len() + self.old_len()) * BUCKET_LEN
     }
 
+    /// Counts on, where `count` was the number of pairs before one went.
+    #[inline(always)]
+    pub(crate) fn count_taken(&self, count: &mut PairCount)
+        ensures { CountsAfter count.old 1 0 (pairs_of self.now) count.new }
+    {
+        if !count.step_down() {
+            *count = PairCount::new(self.count());
+        }
+    }
+
+    /// Counts on, where `count` was the number of pairs before one went, if `taken` has one.
+    #[inline(always)]
+    pub(crate) fn count_removal<T>(&self, count: &mut PairCount, taken: &Option<T>)
+        ensures { CountsAfter count.old (if is_some taken.now then 1 else 0) 0 (pairs_of self.now)
+            count.new }
+    {
+        match taken {
+            Some(_) => self.count_taken(count),
+            None => {}
+        }
+    }
+
+    /// Counts on, where `count` was the number of pairs before one came, if `done` is `Ok`.
+    #[inline(always)]
+    pub(crate) fn count_insertion<T, E>(&self, count: &mut PairCount, done: &Result<T, E>)
+        ensures { CountsAfter count.old 0 (if is_ok done.now then 1 else 0) (pairs_of self.now)
+            count.new }
+    {
+        match done {
+            Ok(_) => count.step_up(),
+            Err(_) => {}
+        }
+    }
+
     /// Returns how many pairs there are, saturating, where `count` was that number before `gone`
     /// pairs went and `added` ones came.
     #[inline(always)]
-    pub(crate) fn count_after(&self, count: usize, gone: usize, added: usize) -> usize
-        ensures { CountsAfter count gone added (pairs_of self.now) result }
+    pub(crate) fn count_after(&self, count: &PairCount, gone: usize, added: usize) -> PairCount
+        ensures { CountsAfter count.now gone added (pairs_of self.now) result }
     {
+        let before = count.get();
         if gone <= added {
-            return count.saturating_add(added - gone);
+            return PairCount::new(before.saturating_add(added - gone));
         }
-        if count == usize::MAX || count < gone - added {
-            return self.count();
+        if before == usize::MAX || before < gone - added {
+            return PairCount::new(self.count());
         }
-        count - (gone - added)
-    }
-}
-
-/// Returns 1 for `Ok`, and 0 for `Err`.
-#[inline(always)]
-pub(crate) fn ok_len<T, E>(done: &Result<T, E>) -> usize
-    ensures { result ≡ (if is_ok done.now then 1 else 0) }
-{
-    match done {
-        Ok(_) => 1,
-        Err(_) => 0,
+        PairCount::new(before - (gone - added))
     }
 }
 
@@ -124,5 +149,32 @@ pub(crate) fn put_len<T, E>(done: &Result<Option<T>, E>) -> usize
         Ok(None) => 1,
         Ok(Some(_)) => 0,
         Err(_) => 0,
+    }
+}
+
+/// Tests whether a count of pairs, which saturates, is their number.
+#[inline(always)]
+pub(crate) fn is_exact(count: usize) -> bool
+    ensures { IsTrue result → count ≢ 2 ^ 64 - 1 }
+{
+    count != usize::MAX
+}
+
+/// Returns the number that is left once one more is gone.
+#[inline(always)]
+pub(crate) fn one_less(rest: usize) -> usize
+    ensures { IsOneLess rest result }
+{
+    rest.wrapping_sub(1)
+}
+
+/// Returns the number that is left after a step.
+#[inline(always)]
+pub(crate) fn rest_after<T>(rest: usize, step: &Option<T>) -> usize
+    ensures { MatchOption step.now (result ≡ rest) (λ _. IsOneLess rest result) }
+{
+    match step {
+        Some(_) => one_less(rest),
+        None => rest,
     }
 }

@@ -1,15 +1,17 @@
 //! Taking pairs out of the arrays one after another, as a function picks them.
-ghost use Rattle.std.specs.Prelude.{◌≡◌, ◌≢◌, ◌<◌, [], IsTrue, Some, length};
+ghost use Rattle.std.specs.Prelude.{◌≡◌, ◌≢◌, ◌≤◌, ◌<◌, [], IfSome, IsTrue, Some, length};
 ghost use Rattle.bucket_slots.specs.ArrayView.{bucket_at};
 ghost use Rattle.bucket_slots.specs.BucketView.{slot_in};
 ghost use Rattle.bucket_slots.specs.Slots.{is_live, live_pair};
 ghost use Rattle.bucket_table.specs.Rehash.State.{first_tickets};
+ghost use Rattle.bucket_table.specs.Map.Counting.{counted_to};
 ghost use Rattle.bucket_table.specs.Views.ArraysView.{pairs_of};
 ghost use Rattle.bucket_table.specs.Walking.Drains.{FreesSlots};
 ghost use Rattle.bucket_table.specs.Walking.Extracting.{AsksPair, Extracts, ExtractsAt};
 ghost use Rattle.bucket_table.specs.Walking.Row.{row_of};
 
 use super::Arrays;
+use super::counting::{is_exact, one_less};
 use crate::retain::ask_slot;
 use bucket_slots::bucket::{EntryPtr, INDEX};
 use bucket_slots::lru::LruList;
@@ -18,15 +20,20 @@ use std::mem;
 
 /// A table's arrays, and the place behind which `pick` wasn't called yet. Dropping it drops the
 /// arrays.
+///
+/// If `is_counted`, no more than `most` pairs are behind the place.
 #[derive(Drop)]
 pub struct TableExtract<K, V, L: LruList, const TYPE: u8> {
     arrays: Arrays<K, V, L, TYPE>,
     index: usize,
     at: EntryPtr<K, V, TYPE>,
+    most: usize,
+    is_counted: bool,
     ghost not_index: { FreesSlots TYPE },
 }
 
 impl<K, V, L: LruList, const TYPE: u8> Model for TableExtract<K, V, L, TYPE> {
+    ghost use Rattle.bucket_table.specs.Map.Counting.{IsMost};
     ghost use Rattle.bucket_table.specs.Walking.Extracting.{ExtractView};
     ghost use Rattle.bucket_table.specs.Walking.Row.{pairs_from, row_of};
 
@@ -36,6 +43,9 @@ impl<K, V, L: LruList, const TYPE: u8> Model for TableExtract<K, V, L, TYPE> {
       arrays = taken.arrays;
       left = pairs_from (row_of taken.arrays) taken.index taken.at;
     } };
+
+    ghost invariant = { λ taken. IsMost taken.is_counted taken.most
+        (pairs_from (row_of taken.arrays) taken.index taken.at) };
 }
 
 impl<K: Drop, V: Drop, L: LruList, const TYPE: u8> TableExtract<K, V, L, TYPE> {
@@ -55,6 +65,7 @@ impl<K: Drop, V: Drop, L: LruList, const TYPE: u8> TableExtract<K, V, L, TYPE> {
         }
         self.arrays.row_room();
         'slots: while let Some(_bucket) = self.arrays.next_slot(&mut self.index, &mut self.at) {
+            self.most = one_less(self.most);
             match ask_at(&mut self.arrays, self.index, &mut self.at, pick) {
                 Some(pair) => return Some(pair),
                 None => {}
@@ -65,10 +76,24 @@ impl<K: Drop, V: Drop, L: LruList, const TYPE: u8> TableExtract<K, V, L, TYPE> {
 }
 
 impl<K, V, L: LruList, const TYPE: u8> TableExtract<K, V, L, TYPE> {
+    /// Returns a bound on the number of pairs that are left, unless the table had 2^64 - 1 pairs or
+    /// more: each call of the function takes one off.
+    ///
+    /// O(1). Own.
+    pub fn most_left(&self) -> Option<usize>
+        ensures { IfSome result (λ most. length self.now.left ≤ most) }
+    {
+        if self.is_counted {
+            return Some(self.most);
+        }
+        None
+    }
+
     /// Exchanges its arrays for others. The place has no meaning then.
     pub(crate) fn swap_arrays(&mut self, arrays: &mut Arrays<K, V, L, TYPE>)
         ensures there { arrays.new ≡ self.old.arrays }
     {
+        self.is_counted = false;
         mem::swap(&mut self.arrays, arrays);
     }
 }
@@ -100,9 +125,11 @@ fn ask_at<K: Drop, V: Drop, L: LruList, F: FnMut(&K, &mut V) -> bool, const TYPE
 }
 
 impl<K, V, L: LruList, const TYPE: u8> Arrays<K, V, L, TYPE> {
-    /// Takes both arrays out with their tickets, and begins with all pairs.
-    pub(crate) fn extract(&mut self) -> TableExtract<K, V, L, TYPE>
+    /// Takes both arrays out with their tickets, and begins with all pairs, of which there are
+    /// `count`.
+    pub(crate) fn extract(&mut self, count: usize) -> TableExtract<K, V, L, TYPE>
         requires not_index { TYPE ≢ INDEX }
+        requires count { count ≡ counted_to (pairs_of self.old) }
         ensures arrays_out { result.arrays ≡ self.old }
         ensures left { result.left ≡ pairs_of self.old }
         ensures arrays { self.new
@@ -112,6 +139,8 @@ impl<K, V, L: LruList, const TYPE: u8> Arrays<K, V, L, TYPE> {
             arrays: self.take_out(),
             index: 0,
             at: EntryPtr::null(),
+            most: count,
+            is_counted: is_exact(count),
         }
     }
 

@@ -7,6 +7,7 @@ ghost use Rattle.bucket_table.specs.Views.Sides.{buckets_on};
 ghost use Rattle.bucket_slots.specs.ArrayView.{bucket_at};
 ghost use Rattle.bucket_slots.specs.BucketView.{pairs_in};
 ghost use Rattle.bucket_table.specs.Resize.Asking.{AsksGrowth, AsksShrinking, ResizesIf};
+ghost use Rattle.bucket_table.specs.Resize.Asking.{ShrinksBy};
 
 use super::sampling::live_slots;
 use super::{Arrays, Side};
@@ -41,23 +42,33 @@ impl<K: Drop, V: Drop, L: LruList + Drop, const TYPE: u8> Arrays<K, V, L, TYPE> 
     {
         self.room_of(side);
         let left = self.bucket_of(side, index).len();
-        self.shrink_left(side, index, left);
+        self.shrink_left(side, index, left, None);
     }
 
-    /// Does the same if `left`, the number of live pairs left in a bucket, is 0.
+    /// Does the same if `left`, the number of live pairs left in a bucket, is 0; with the number of
+    /// pairs that the arrays have, only if that agrees, as `shrink_to` says.
     #[inline(always)]
-    pub(crate) fn shrink_left(&mut self, side: Side, index: usize, left: usize)
+    pub(crate) fn shrink_left(
+        &mut self,
+        side: Side,
+        index: usize,
+        left: usize,
+        pairs: Option<usize>,
+    )
         requires within { index < length (buckets_on self.old side) }
         requires left { left ≡ length (pairs_in (bucket_at (buckets_on self.old side) index)) }
-        ensures asked { ResizesIf ((pairs_in (bucket_at (buckets_on self.old side) index) ≡ [])
-            × AsksShrinking self.old index) self.old self.new }
+        ensures asked { ShrinksBy pairs (pairs_in (bucket_at (buckets_on self.old side) index) ≡ [])
+            index self.old self.new }
         ensures kept { Keeps self.old self.new }
         ensures placed { (hash : K → ℕ) → ArePlaced hash self.old → ArePlaced hash self.new }
     {
         if left != 0 {
             return;
         }
-        self.try_shrink(index);
+        match pairs {
+            None => self.try_shrink(index),
+            Some(pairs) => self.shrink_to(index, pairs),
+        }
     }
 }
 

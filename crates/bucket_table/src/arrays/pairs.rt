@@ -4,9 +4,11 @@
 //! which tells the borrow checker that TYPE lives as long as the buckets.
 ghost use Rattle.std.specs.Prelude.{◌≡◌, ◌-◌, ◌^◌, length, min};
 ghost use Rattle.std.specs.Iterator.{YieldsFirstBy, item_count};
+ghost use Rattle.bucket_table.specs.Map.Counting.{counted_to};
 ghost use Rattle.bucket_table.specs.Views.ArraysView.{pairs_of};
 
 use super::Arrays;
+use super::counting::{is_exact, one_less};
 use bucket_slots::bucket::{Bucket, EntryPtr};
 use bucket_slots::lru::LruList;
 use std::alloc::AllocError;
@@ -21,6 +23,7 @@ pub struct Kind<const TYPE: u8> {}
 ///
 /// `here` and `left` keep what is read of the place's bucket once for all of its pairs: the bucket,
 /// alone in a slice, and its live own slots behind the place. Where `left` is 0, they say nothing.
+/// If `is_counted`, `rest` is the number of pairs that are left.
 #[derive(Drop)]
 pub struct ArraysPairs<'a, K, V, L: LruList, const TYPE: u8, R> {
     arrays: &'a Arrays<K, V, L, TYPE>,
@@ -28,6 +31,8 @@ pub struct ArraysPairs<'a, K, V, L: LruList, const TYPE: u8, R> {
     at: EntryPtr<K, V, TYPE>,
     here: &'a [Bucket<K, V, L, TYPE>],
     left: u32,
+    rest: usize,
+    is_counted: bool,
     loan: PhantomData<R>,
 }
 
@@ -36,6 +41,7 @@ pub type TablePairs<'a, K, V, L, const TYPE: u8> = ArraysPairs<'a, K, V, L, TYPE
 
 impl<'a, K, V, L: LruList, const TYPE: u8, R> Model for ArraysPairs<'a, K, V, L, TYPE, R> {
     ghost use Rattle.std.specs.Prelude.{List};
+    ghost use Rattle.bucket_table.specs.Map.Counting.{IsRest};
     ghost use Rattle.bucket_table.specs.Walking.Row.{LendsLeft, pairs_from, row_of};
 
     ghost Value = { List (K × V) };
@@ -43,7 +49,9 @@ impl<'a, K, V, L: LruList, const TYPE: u8, R> Model for ArraysPairs<'a, K, V, L,
     ghost view = { λ pairs. pairs_from (row_of pairs.arrays.now) pairs.index pairs.at };
 
     ghost invariant = { λ pairs. LendsLeft (row_of pairs.arrays.now) pairs.index pairs.at
-        pairs.here.now pairs.left };
+        pairs.here.now pairs.left
+        × IsRest pairs.is_counted pairs.rest
+        (pairs_from (row_of pairs.arrays.now) pairs.index pairs.at) };
 }
 
 impl<'a, K, V, L: LruList, const TYPE: u8> Iterator
@@ -69,17 +77,19 @@ impl<'a, K, V, L: LruList, const TYPE: u8> Iterator
         };
         self.left = bucket.next_own(&mut self.at, left);
         self.here = slice::from_ref(bucket);
+        self.rest = one_less(self.rest);
         Some(bucket.entry(&self.at))
     }
 
-    /// O(slots that are left): it counts the pairs.
+    /// The number of pairs that are left, as both bounds; none where the table had 2^64 - 1 pairs
+    /// or more.
+    ///
+    /// O(1).
     fn size_hint(&self) -> (usize, Option<usize>) {
-        let count = self.count_left();
-        if count < usize::MAX {
-            (count, Some(count))
-        } else {
-            (count, None)
+        if self.is_counted {
+            return (self.rest, Some(self.rest));
         }
+        (0, None)
     }
 }
 
@@ -98,6 +108,7 @@ impl<'a, K, V, L: LruList, const TYPE: u8> ArraysPairs<'a, K, V, L, TYPE, &'a Ki
         let Some(bucket) = self.arrays.next_slot(&mut self.index, &mut self.at) else {
             return None;
         };
+        self.rest = one_less(self.rest);
         Some(bucket.entry(&self.at))
     }
 
@@ -111,6 +122,8 @@ impl<'a, K, V, L: LruList, const TYPE: u8> ArraysPairs<'a, K, V, L, TYPE, &'a Ki
             at: self.at.clone(),
             here: self.here,
             left: self.left,
+            rest: self.rest,
+            is_counted: self.is_counted,
             loan: PhantomData,
         }
     }
@@ -146,8 +159,9 @@ impl<'a, K, V, L: LruList, const TYPE: u8> FusedIterator
     for ArraysPairs<'a, K, V, L, TYPE, &'a Kind<TYPE>> {}
 
 impl<K, V, L: LruList, const TYPE: u8> Arrays<K, V, L, TYPE> {
-    /// Returns an iterator over all pairs.
-    pub(crate) fn pairs(&self) -> TablePairs<'_, K, V, L, TYPE>
+    /// Returns an iterator over all pairs, of which there are `count`.
+    pub(crate) fn pairs(&self, count: usize) -> TablePairs<'_, K, V, L, TYPE>
+        requires { count ≡ counted_to (pairs_of self.now) }
         ensures { result ≡ pairs_of self.now }
     {
         ArraysPairs {
@@ -156,6 +170,8 @@ impl<K, V, L: LruList, const TYPE: u8> Arrays<K, V, L, TYPE> {
             at: EntryPtr::null(),
             here: &[],
             left: 0,
+            rest: count,
+            is_counted: is_exact(count),
             loan: PhantomData,
         }
     }

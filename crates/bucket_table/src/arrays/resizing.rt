@@ -6,13 +6,16 @@ ghost use Rattle.bucket_slots.specs.Sizing.{IsPowerIn};
 ghost use Rattle.bucket_table.specs.Rehash.State.{first_tickets};
 ghost use Rattle.bucket_table.specs.Views.ArraysView.{ArePlaced};
 ghost use Rattle.bucket_table.specs.Views.Keeping.{Keeps};
+ghost use Rattle.bucket_table.specs.Resize.Asking.{AsksShrinking};
 ghost use Rattle.bucket_table.specs.Resize.ResizePlan.{IsCapacityWithin};
 ghost use Rattle.bucket_table.specs.Resize.Resizing.{IsPlanOf, IsPushed, MakesArray, Releases};
 ghost use Rattle.bucket_table.specs.Resize.Resizing.{Reserves, Resizes, TriesResize, with_minimum};
+ghost use Rattle.bucket_table.specs.Resize.Sparse.{IsSparse, ShrinksIf};
 
 use super::plan::{Plan, plan_of};
 use super::{Arrays, Side};
 use crate::tickets::Tickets;
+use bucket_slots::bucket::BUCKET_LEN;
 use bucket_slots::bucket_array::BucketArray;
 use bucket_slots::lru::LruList;
 use std::alloc::AllocError;
@@ -51,6 +54,34 @@ impl<K: Drop, V: Drop, L: LruList + Drop, const TYPE: u8> Arrays<K, V, L, TYPE> 
             Plan::Resize(capacity) => {
                 self.push_array(capacity)?;
                 Ok(true)
+            }
+        }
+    }
+
+    /// Shrinks as `try_shrink` does, if so many pairs are less than an eighth of the slots: if the
+    /// buckets near this index have few live slots, and the plan of a resize is an array with fewer
+    /// slots, or none. The new array has at least two slots for each of the pairs.
+    ///
+    /// If allocation fails, nothing changes.
+    #[inline(never)]
+    pub(crate) fn shrink_to(&mut self, index: usize, pairs: usize)
+        ensures asked { ShrinksIf (IsSparse pairs self.old × AsksShrinking self.old index) pairs
+            self.old self.new }
+        ensures kept { Keeps self.old self.new }
+        ensures placed { (hash : K → ℕ) → ArePlaced hash self.old → ArePlaced hash self.new }
+    {
+        self.sound();
+        let len = self.len();
+        if pairs / (BUCKET_LEN / 8) >= len || !self.asks_shrinking(index) {
+            return;
+        }
+        match self.resize_plan() {
+            Plan::Keep => {}
+            Plan::GiveUp => self.give_array_up(),
+            Plan::Resize(capacity) => {
+                if capacity < len * BUCKET_LEN {
+                    let _ = self.push_array(capacity.max(pairs * 2));
+                }
             }
         }
     }

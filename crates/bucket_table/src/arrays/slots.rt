@@ -200,19 +200,20 @@ impl<K: Drop, V: Drop, L: LruList, const TYPE: u8> Arrays<K, V, L, TYPE> {
 }
 
 impl<K: Drop, V: Drop, L: LruList + Drop, const TYPE: u8> Arrays<K, V, L, TYPE> {
-    /// Makes the pair in a live slot a tombstone. If no live pair is left in the bucket and few
-    /// slots near it are live, shrinks the arrays.
+    /// Makes the pair in a live slot a tombstone. If no live pair is left in the bucket, the arrays
+    /// may shrink, as `shrink_left` does.
     pub(crate) fn mark_at<G: Generation>(
         &mut self,
         side: Side,
         index: usize,
         at: &mut EntryPtr<K, V, TYPE>,
         generation: &G,
+        pairs: Option<usize>,
     )
         requires index { TYPE ≡ INDEX }
         requires within { index < length (buckets_on self.old side) }
         requires live_slot { IsTrue (is_live (slot_in (bucket_on self.old side index) at.old)) }
-        ensures asked { RemovesAndShrinks self.old side index
+        ensures asked { RemovesAndShrinks pairs self.old side index
             (slots_marked (bucket_on self.old side index) at.old (G.epoch_of generation.now))
             self.new }
         ensures kept { Keeps (arrays_with self.old side index
@@ -224,23 +225,24 @@ impl<K: Drop, V: Drop, L: LruList + Drop, const TYPE: u8> Arrays<K, V, L, TYPE> 
         ensures pointer { at.new ≡ at.old }
     {
         let left = self.mark_slot(side, index, at, generation);
-        self.shrink_left(side, index, left);
+        self.shrink_left(side, index, left, pairs);
     }
 
-    /// Takes the pair out of a live slot. If no live pair is left in the bucket and few slots near
-    /// it are live, shrinks the arrays.
+    /// Takes the pair out of a live slot. If no live pair is left in the bucket, the arrays may
+    /// shrink, as `shrink_left` does.
     #[inline(always)]
     pub(crate) fn take_at(
         &mut self,
         side: Side,
         index: usize,
         at: &mut EntryPtr<K, V, TYPE>,
+        pairs: Option<usize>,
     ) -> (K, V)
         requires not_index { TYPE ≢ INDEX }
         requires within { index < length (buckets_on self.old side) }
         requires live_slot { IsTrue (is_live (slot_in (bucket_on self.old side index) at.old)) }
         ensures pair { live_pair (slot_in (bucket_on self.old side index) at.old) ≡ Some result }
-        ensures asked { RemovesAndShrinks self.old side index
+        ensures asked { RemovesAndShrinks pairs self.old side index
             (slots_without (bucket_on self.old side index) at.old) self.new }
         ensures kept { Keeps (arrays_with self.old side index
             (slots_without (bucket_on self.old side index) at.old)) self.new }
@@ -249,21 +251,22 @@ impl<K: Drop, V: Drop, L: LruList + Drop, const TYPE: u8> Arrays<K, V, L, TYPE> 
         ensures place { at.new ≡ place_after (bucket_on self.old side index) at.old }
     {
         let (pair, left) = self.take_slot(side, index, at);
-        self.shrink_left(side, index, left);
+        self.shrink_left(side, index, left, pairs);
         pair
     }
 
     /// Takes the first pair that a probe wants out of the home of a hash on one side. If no live
-    /// pair is left in the bucket and few slots near it are live, shrinks the arrays.
+    /// pair is left in the bucket, the arrays may shrink, as `shrink_left` does.
     #[inline(always)]
     pub(crate) fn take_on<P: KeyProbe<K>>(
         &mut self,
         side: Side,
         hash: u64,
         probe: &mut P,
+        pairs: Option<usize>,
     ) -> Option<(K, V)>
         requires not_index { TYPE ≢ INDEX }
-        ensures taken { TakesOn (P.wants probe.old) hash side self.old result self.new }
+        ensures taken { TakesOn pairs (P.wants probe.old) hash side self.old result self.new }
         ensures fixed { P.wants probe.new ≡ P.wants probe.old }
     {
         if self.len_on(side) == 0 {
@@ -274,7 +277,7 @@ impl<K: Drop, V: Drop, L: LruList + Drop, const TYPE: u8> Arrays<K, V, L, TYPE> 
         let Some((pair, left)) = self.take_home(side, index, hash, probe) else {
             return None;
         };
-        self.shrink_left(side, index, left);
+        self.shrink_left(side, index, left, pairs);
         Some(pair)
     }
 
@@ -286,13 +289,14 @@ impl<K: Drop, V: Drop, L: LruList + Drop, const TYPE: u8> Arrays<K, V, L, TYPE> 
         side: Side,
         hash: u64,
         probe: &mut P,
+        pairs: Option<usize>,
     ) -> Option<(K, V)>
         requires not_index { TYPE ≢ INDEX }
-        ensures taken { TakesOn (P.wants probe.old) hash side self.old result self.new }
+        ensures taken { TakesOn pairs (P.wants probe.old) hash side self.old result self.new }
         ensures fixed { P.wants probe.new ≡ P.wants probe.old }
     {
         match self.search_on(side, hash, probe) {
-            Some(mut spot) => Some(self.take_at(spot.side, spot.index, &mut spot.at)),
+            Some(mut spot) => Some(self.take_at(spot.side, spot.index, &mut spot.at, pairs)),
             None => None,
         }
     }

@@ -16,6 +16,7 @@ ghost use Rattle.bucket_table.specs.Views.ArraysView.{marks_of, pairs_of};
 ghost use Rattle.bucket_table.specs.Map.ByKey.{AnswersInsertion, ChangesAt, HandsBack};
 ghost use Rattle.bucket_table.specs.Map.ByKey.{InsertsAt, PreparesThen, Inserts, Marks};
 ghost use Rattle.bucket_table.specs.Map.ByKey.{ShrinksAt, StandsAt, Swaps, Takes, Touches};
+ghost use Rattle.bucket_table.specs.Map.Counting.{pairs_left};
 ghost use Rattle.bucket_table.specs.Map.Finding.{FindsThen};
 ghost use Rattle.bucket_table.specs.Map.LookingUp.{IsAbsent, IsThere};
 ghost use Rattle.bucket_table.specs.Map.MapState.{ChangesValue, state_of};
@@ -24,14 +25,13 @@ ghost use Rattle.bucket_table.specs.Views.Locking.{IsLocked};
 
 mod by_probe;
 mod evicting;
-mod growing;
 mod lending;
 mod replacing;
 mod touching;
 mod updating;
 
-use crate::arrays::{Side, Spot, ok_len};
-use crate::hash_table::{HashTable, NotInserted};
+use crate::arrays::{Side, Spot};
+use crate::hash_table::{HashTable, NotInserted, ResizeRule};
 use crate::key_hash::KeyHash;
 use bucket_slots::bucket::{CACHE, EqProbe, Generation, INDEX};
 use bucket_slots::lru::LruList;
@@ -47,32 +47,34 @@ impl<K: Eq + Drop, V: Drop, H: KeyHash<K>, L: LruList + Drop, const TYPE: u8> Ha
     /// Removes the pair whose key is equal, and returns it. `None` exactly if the map has none.
     ///
     /// Works a unit. May take memory, and never fails. If no live pair is left in the bucket, the
-    /// table may shrink.
+    /// table may shrink, by the rule `rule`.
     ///
     /// O(unit; buckets if it shrinks). Own.
     #[inline(always)]
-    pub fn take(&mut self, key: &K) -> Option<(K, V)>
+    pub fn take(&mut self, key: &K, rule: ResizeRule) -> Option<(K, V)>
         requires not_index { TYPE ≢ INDEX }
         ensures map { Takes (λ own. K.eq own key.now) (state_of TYPE self.old) result
             (state_of TYPE self.new) }
         ensures arrays { PreparesThen TYPE (H.hash_of self.old.hasher key.now) self.old (λ between.
-            ShrinksAt (λ own. K.eq own key.now) slots_without (is_some result) between self.new) }
+            ShrinksAt (λ own. K.eq own key.now) slots_without (pairs_left rule self.old.arrays)
+            (is_some result) between self.new) }
     {
         let hash = self.hash(key);
-        self.take_by(hash, &mut EqProbe::new(key))
+        self.take_by(hash, &mut EqProbe::new(key), rule)
     }
 
     /// Calls `reader` with the pair of an index whose key is equal, makes the pair a tombstone, and
     /// returns the reader's answer. `None` exactly if the map has none; `reader` isn't called then.
     ///
     /// Works a unit. May take memory, and never fails. If no live pair is left in the bucket, the
-    /// table may shrink.
+    /// table may shrink, by the rule `rule`.
     ///
     /// O(unit; buckets if it shrinks). Own.
     pub fn mark<R, F: FnOnce(&K, &V) -> R, G: Generation>(
         &mut self,
         key: &K,
         generation: &G,
+        rule: ResizeRule,
         reader: F,
     ) -> Option<R>
         requires index { TYPE ≡ INDEX }
@@ -84,13 +86,13 @@ impl<K: Eq + Drop, V: Drop, H: KeyHash<K>, L: LruList + Drop, const TYPE: u8> Ha
             (state_of TYPE self.old) result (state_of TYPE self.new) }
         ensures arrays { PreparesThen TYPE (H.hash_of self.old.hasher key.now) self.old (λ between.
             ShrinksAt (λ own. K.eq own key.now)
-            (λ bucket at. slots_marked bucket at (G.epoch_of generation.now)) (is_some result)
-            between self.new) }
+            (λ bucket at. slots_marked bucket at (G.epoch_of generation.now))
+            (pairs_left rule self.old.arrays) (is_some result) between self.new) }
         ensures marks { MarksBy (G.epoch_of generation.now) (marks_of self.old.arrays)
             (marks_of self.new.arrays) }
     {
         let hash = self.hash(key);
-        self.mark_by(hash, &mut EqProbe::new(key), generation, reader)
+        self.mark_by(hash, &mut EqProbe::new(key), generation, rule, reader)
     }
 
     /// Makes the pair of a cache whose key is equal the one touched last in its bucket; a slot of
@@ -135,7 +137,7 @@ impl<K: Eq + Drop, V: Drop, H: KeyHash<K>, L: LruList + Drop, const TYPE: u8> Ha
         }
     }
 
-    /// Inserts a pair whose key is absent.
+    /// Inserts a pair whose key is absent. The table may grow, by the rule `rule`.
     ///
     /// # Errors
     ///
@@ -149,18 +151,19 @@ impl<K: Eq + Drop, V: Drop, H: KeyHash<K>, L: LruList + Drop, const TYPE: u8> Ha
         key: K,
         value: V,
         generation: &G,
+        rule: ResizeRule,
     ) -> Result<(), NotInserted<K, V>>
         ensures map { Inserts K.eq key value (state_of TYPE self.old) result
             (state_of TYPE self.new) }
-        ensures arrays { FindsThen TYPE (H.hash_of self.old.hasher key) self.old (λ answer between.
-            InsertsAt TYPE (G.keeps generation.now) (key, value)
+        ensures arrays { FindsThen rule TYPE (H.hash_of self.old.hasher key) self.old
+            (λ answer between. InsertsAt TYPE (G.keeps generation.now) (key, value)
             (H.hash_of self.old.hasher key % 256) between result answer self.new) }
     {
         let hash = self.hash(&key);
         if let Some(index) = self.roomy_home(hash) {
             return self.insert_at(Side::Current, index, hash, key, value, generation);
         }
-        self.insert_found(hash, key, value, generation)
+        self.insert_found(hash, key, value, generation, rule)
     }
 
     /// Finds a bucket for a pair, and inserts it there.
@@ -171,15 +174,16 @@ impl<K: Eq + Drop, V: Drop, H: KeyHash<K>, L: LruList + Drop, const TYPE: u8> Ha
         key: K,
         value: V,
         generation: &G,
+        rule: ResizeRule,
     ) -> Result<(), NotInserted<K, V>>
         requires own_hash { hash ≡ H.hash_of self.old.hasher key }
         ensures map { Inserts K.eq key value (state_of TYPE self.old) result
             (state_of TYPE self.new) }
-        ensures arrays { FindsThen TYPE (H.hash_of self.old.hasher key) self.old (λ answer between.
-            InsertsAt TYPE (G.keeps generation.now) (key, value)
+        ensures arrays { FindsThen rule TYPE (H.hash_of self.old.hasher key) self.old
+            (λ answer between. InsertsAt TYPE (G.keeps generation.now) (key, value)
             (H.hash_of self.old.hasher key % 256) between result answer self.new) }
     {
-        let Ok((side, index)) = self.find(hash) else {
+        let Ok((side, index)) = self.find(hash, rule) else {
             return Err(self.not_inserted(hash, key, value));
         };
         self.insert_at(side, index, hash, key, value, generation)
@@ -211,7 +215,7 @@ impl<K: Eq + Drop, V: Drop, H: KeyHash<K>, L: LruList + Drop, const TYPE: u8> Ha
         let done = self
             .arrays
             .insert_home(side, index, hash, key, value, generation);
-        self.count = self.arrays.count_after(self.count, 0, ok_len(&done));
+        self.arrays.count_insertion(&mut self.count, &done);
         done
     }
 

@@ -35,8 +35,8 @@ impl<K: Eq + Drop, V: Drop, H: KeyHash<K>, L: LruList + Drop, const TYPE: u8> Ha
         ensures alone { length self.old.arrays.linked ≡ 0 → (pairs_of self.old.arrays ≡ [] → ⊥)
             → self.new ≡ self.old }
     {
-        self.arrays.count_on(&self.hasher, self.count);
-        self.count
+        self.arrays.count_on(&self.hasher, self.count.get());
+        self.count.get()
     }
 
     /// Tests whether the map has a pair.
@@ -66,7 +66,7 @@ impl<K: Eq, V, H: KeyHash<K>, L: LruList, const TYPE: u8> HashTable<K, V, H, L, 
     pub fn len(&self) -> usize
         ensures { result ≡ counted_to (pairs_of self.now.arrays) }
     {
-        self.count
+        self.count.get()
     }
 
     /// Returns what `len` returns, and states that there are at most as many pairs as own slots,
@@ -78,10 +78,10 @@ impl<K: Eq, V, H: KeyHash<K>, L: LruList, const TYPE: u8> HashTable<K, V, H, L, 
         ensures within { IsHeldBy (pairs_of self.now.arrays)
             (self.now.arrays.current ++ self.now.arrays.linked) }
     {
-        if self.count > self.arrays.own_slots() {
+        if self.count.get() > self.arrays.own_slots() {
             return self.arrays.count();
         }
-        self.count
+        self.count.get()
     }
 
     /// States that the current array has no more slots than the maximum; does nothing at run time.
@@ -100,6 +100,6 @@ impl<K: Eq, V, H: KeyHash<K>, L: LruList, const TYPE: u8> HashTable<K, V, H, L, 
     pub fn is_empty(&self) -> bool
         ensures { IsTrue result ↔ pairs_of self.now.arrays ≡ [] }
     {
-        self.count == 0
+        self.count.get() == 0
     }
 }

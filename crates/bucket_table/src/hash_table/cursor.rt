@@ -127,7 +127,7 @@ impl<K: Eq + Drop, V: Drop, H: KeyHash<K>, L: LruList + Drop, const TYPE: u8> Ha
         let before = self.arrays.len_at(index);
         let gone = self.arrays.retain_bucket(index, keep, generation);
         let after = self.arrays.len_at(index);
-        self.count = self.arrays.count_after(self.count, before, after);
+        self.count = self.arrays.count_after(&self.count, before, after);
         gone
     }
 

@@ -6,6 +6,7 @@ ghost use Rattle.bucket_table.specs.Views.ArraysView.{pairs_of};
 use crate::arrays::TableDrain;
 use crate::hash_table::HashTable;
 use crate::key_hash::KeyHash;
+use crate::pair_count::PairCount;
 use bucket_slots::bucket::INDEX;
 use bucket_slots::lru::LruList;
 
@@ -26,7 +27,7 @@ impl<K: Eq + Drop, V: Drop, H: KeyHash<K>, L: LruList + Drop, const TYPE: u8> Ha
             ≡ record self.old.arrays { current = []; linked = []; tickets = first_tickets 0 } }
     {
         self.arrays.clear();
-        self.count = 0;
+        self.count = PairCount::new(0);
     }
 }
 
@@ -44,7 +45,8 @@ impl<K: Eq, V, H: KeyHash<K>, L: LruList, const TYPE: u8> HashTable<K, V, H, L, 
         ensures arrays { self.new.arrays
             ≡ record self.old.arrays { current = []; linked = []; tickets = first_tickets 0 } }
     {
-        self.count = 0;
-        self.arrays.drain()
+        let count = self.count.get();
+        self.count = PairCount::new(0);
+        self.arrays.drain(count)
     }
 }

@@ -6,6 +6,7 @@ ghost use Rattle.bucket_table.specs.Views.ArraysView.{IsOneMap, pairs_of};
 use crate::arrays::TableExtract;
 use crate::hash_table::HashTable;
 use crate::key_hash::KeyHash;
+use crate::pair_count::PairCount;
 use bucket_slots::bucket::INDEX;
 use bucket_slots::lru::LruList;
 
@@ -22,8 +23,9 @@ impl<K: Eq, V, H: KeyHash<K>, L: LruList, const TYPE: u8> HashTable<K, V, H, L, 
         ensures arrays { self.new.arrays
             ≡ record self.old.arrays { current = []; linked = []; tickets = first_tickets 0 } }
     {
-        self.count = 0;
-        self.arrays.extract()
+        let count = self.count.get();
+        self.count = PairCount::new(0);
+        self.arrays.extract(count)
     }
 
     /// Puts back arrays that were taken out, with their tickets and capacities, in exchange for
@@ -35,6 +37,6 @@ impl<K: Eq, V, H: KeyHash<K>, L: LruList, const TYPE: u8> HashTable<K, V, H, L, 
         ensures { self.new ≡ record self.old { arrays = taken.old.arrays } }
     {
         taken.swap_arrays(&mut self.arrays);
-        self.count = self.arrays.count();
+        self.count = PairCount::new(self.arrays.count());
     }
 }

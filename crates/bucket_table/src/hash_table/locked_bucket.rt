@@ -24,7 +24,7 @@ ghost use Rattle.std.specs.Borrow.{sem};
 ghost use Rattle.std.specs.Prelude.{◌%◌, ◌≡◌, ◌≢◌, IfSome, IsTrue, OnOk};
 ghost use Rattle.std.specs.Prelude.{Some, if◌then◌else◌, is_ok, length};
 
-use crate::arrays::{Side, ok_len, some_len};
+use crate::arrays::Side;
 use crate::hash_table::HashTable;
 use crate::key_hash::KeyHash;
 use bucket_slots::bucket::{Bucket, CACHE, EntryPtr, Generation, INDEX};
@@ -172,7 +172,7 @@ impl<'a, K: Eq, V, H: KeyHash<K>, L: LruList, const TYPE: u8> LockedBucket<'a, K
         table.arrays.room_of(side);
         let gone = table.arrays.bucket_of_mut(side, index).evict_lru_head();
         table.arrays.settle_on(side, index);
-        table.count = table.arrays.count_after(table.count, some_len(&gone), 0);
+        table.arrays.count_removal(&mut table.count, &gone);
         gone
     }
 
@@ -194,7 +194,7 @@ impl<'a, K: Eq, V, H: KeyHash<K>, L: LruList, const TYPE: u8> LockedBucket<'a, K
         let index = self.index;
         let table = &mut *self.table;
         let _left = table.arrays.mark_slot(side, index, at, generation);
-        table.count = table.arrays.count_after(table.count, 1, 0);
+        table.arrays.count_taken(&mut table.count);
     }
 }
 
@@ -245,7 +245,7 @@ impl<'a, K: Eq + Drop, V: Drop, H: KeyHash<K>, L: LruList, const TYPE: u8> Locke
             .bucket_of_mut(side, index)
             .insert(hash, pair, generation);
         table.arrays.settle_on(side, index);
-        table.count = table.arrays.count_after(table.count, 0, ok_len(&placed));
+        table.arrays.count_insertion(&mut table.count, &placed);
         placed
     }
 
@@ -267,7 +267,7 @@ impl<'a, K: Eq + Drop, V: Drop, H: KeyHash<K>, L: LruList, const TYPE: u8> Locke
         let index = self.index;
         let table = &mut *self.table;
         let (pair, _left) = table.arrays.take_slot(side, index, at);
-        table.count = table.arrays.count_after(table.count, 1, 0);
+        table.arrays.count_taken(&mut table.count);
         pair
     }
 }

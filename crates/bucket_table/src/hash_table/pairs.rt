@@ -15,6 +15,6 @@ impl<K: Eq, V, H: KeyHash<K>, L: LruList, const TYPE: u8> HashTable<K, V, H, L, 
     pub fn pairs(&self) -> TablePairs<'_, K, V, L, TYPE>
         ensures { result ≡ pairs_of self.now.arrays }
     {
-        self.arrays.pairs()
+        self.arrays.pairs(self.count.get())
     }
 }

@@ -12,6 +12,7 @@ ghost use Rattle.bucket_table.specs.Walking.ByUse.{own_left};
 use crate::arrays::Arrays;
 use crate::hash_table::HashTable;
 use crate::key_hash::KeyHash;
+use crate::pair_count::PairCount;
 use bucket_slots::bucket::{BUCKET_LEN, Bucket, CACHE, EntryPtr};
 use bucket_slots::lru::DoublyLinkedList;
 use std::alloc::AllocError;
@@ -48,7 +49,7 @@ impl<K: Eq + Drop, V: Drop, H: KeyHash<K>, const TYPE: u8> HashTable<
     {
         let fresh = self.arrays.fresh(capacity)?;
         let mut source = mem::replace(&mut self.arrays, fresh);
-        self.count = 0;
+        self.count = PairCount::new(0);
         self.pour_all(&mut source);
         Ok(())
     }

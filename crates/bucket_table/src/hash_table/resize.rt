@@ -9,6 +9,7 @@
 ghost use Rattle.std.specs.Borrow.{sem};
 ghost use Rattle.bucket_table.specs.Map.MapState.{KeepsPairs, LowersMinimum};
 ghost use Rattle.bucket_table.specs.Map.MapState.{RaisesMinimum, state_of};
+ghost use Rattle.bucket_table.specs.Resize.Overfull.{GrowsIfOverfull};
 ghost use Rattle.bucket_table.specs.Resize.Resizing.{Releases, Reserves, TriesResize};
 
 use crate::hash_table::HashTable;
@@ -46,6 +47,31 @@ impl<K: Eq + Drop, V: Drop, H: KeyHash<K>, L: LruList + Drop, const TYPE: u8> Ha
             Some(array) => Ok(array),
             None => unreachable!(),
         }
+    }
+
+    /// Doubles the slots, whatever the plan of a resize says, if the home of a hash is overfull: it
+    /// has 48 live pairs or more, the map has at least a pair for each 8 slots, no incremental
+    /// rehash is under way, and twice the slots do not pass the maximum. Returns whether it did.
+    ///
+    /// Then the current array is the old one, unchanged, and an empty array of twice its slots is
+    /// the current one. Works no unit.
+    ///
+    /// # Errors
+    ///
+    /// Allocation of the array failed: the table is unchanged.
+    ///
+    /// O(1), but for an overfull home O(buckets). Own: keys that come in the order of their hashes
+    /// all go to a few buckets, which no sample sees.
+    #[inline(always)]
+    pub fn grow_if_overfull(&mut self, hash: u64) -> Result<bool, AllocError>
+        ensures grown { GrowsIfOverfull hash self.old.arrays result self.new.arrays }
+        ensures map { KeepsPairs (state_of TYPE self.old) (state_of TYPE self.new) }
+    {
+        if !self.arrays.has_full_home(hash) {
+            return Ok(false);
+        }
+        let count = self.len();
+        self.arrays.double(count)
     }
 
     /// Resizes the table, or drops its array, as the plan says. Returns whether it did: false

@@ -67,8 +67,8 @@ impl<'a, K: Eq + Drop, V: Drop, H: KeyHash<K>, L: LruList + Drop, const TYPE: u8
         ensures place { at.new ≡ place_after (bucket_in self.entry) at.old }
     {
         let LockedBucket { table, side, index } = self;
-        let pair = table.arrays.take_at(side, index, at);
-        table.count = table.arrays.count_after(table.count, 1, 0);
+        let pair = table.arrays.take_at(side, index, at, None);
+        table.arrays.count_taken(&mut table.count);
         (pair, table)
     }
 
@@ -92,8 +92,8 @@ impl<'a, K: Eq + Drop, V: Drop, H: KeyHash<K>, L: LruList + Drop, const TYPE: u8
         ensures pointer { at.new ≡ at.old }
     {
         let LockedBucket { table, side, index } = self;
-        table.arrays.mark_at(side, index, at, generation);
-        table.count = table.arrays.count_after(table.count, 1, 0);
+        table.arrays.mark_at(side, index, at, generation, None);
+        table.arrays.count_taken(&mut table.count);
         table
     }
 }

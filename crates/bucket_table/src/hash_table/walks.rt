@@ -173,7 +173,7 @@ impl<K: Eq + Drop, V: Drop, H: KeyHash<K>, L: LruList + Drop, const TYPE: u8> Ha
         let before = self.arrays.len_at(index);
         let more = self.arrays.visit_at(index, visitor, flag);
         let after = self.arrays.len_at(index);
-        self.count = self.arrays.count_after(self.count, before, after);
+        self.count = self.arrays.count_after(&self.count, before, after);
         more
     }
 

@@ -20,9 +20,11 @@ ghost use Rattle.bucket_table.specs.Views.Locking.{IsLocked};
 ghost use Rattle.bucket_table.specs.Map.Preparing.{HomeWantsMemory, IsMissing, IsPrepared, IsReady};
 ghost use Rattle.bucket_table.specs.Views.Sides.{buckets_on};
 ghost use Rattle.bucket_table.specs.declared.arrays.side.Side.TheVariants.{Current};
+ghost use Rattle.bucket_table.specs.declared.hash_table.ResizeRule.{ResizeRule};
+ghost use Rattle.bucket_table.specs.declared.hash_table.ResizeRule.TheVariants.{Sampled};
 
 use crate::arrays::Side;
-use crate::hash_table::{HashTable, LockedBucket, Missing};
+use crate::hash_table::{HashTable, LockedBucket, Missing, ResizeRule};
 use crate::key_hash::KeyHash;
 use bucket_slots::lru::LruList;
 use std::alloc::AllocError;
@@ -58,9 +60,11 @@ impl<K: Eq + Drop, V: Drop, H: KeyHash<K>, L: LruList + Drop, const TYPE: u8> Ha
 
     /// Finds the bucket for a writer of a hash, and returns its side and its index.
     ///
-    /// Works a unit, and makes the first array if there is none. Then, if the home is nearly full
-    /// and many slots near it are live, it resizes, and the bucket is one of the array that has
-    /// just become the old one.
+    /// If the rule is `ResizeRule::Counted` and the home is overfull, the slots are doubled, and
+    /// the bucket is the home in the array that has just become the old one. Otherwise a unit is
+    /// worked, and a first array is made if there is none. Then, if the home is nearly full and
+    /// many slots near it are live, the table is resized, and the bucket is again one of the old
+    /// array.
     ///
     /// # Errors
     ///
@@ -69,8 +73,24 @@ impl<K: Eq + Drop, V: Drop, H: KeyHash<K>, L: LruList + Drop, const TYPE: u8> Ha
     ///
     /// O(unit; buckets that a resize makes). Own.
     #[inline(always)]
-    pub fn find(&mut self, hash: u64) -> Result<(Side, usize), AllocError>
-        ensures { Finds TYPE hash self.old result self.new }
+    pub fn find(&mut self, hash: u64, rule: ResizeRule) -> Result<(Side, usize), AllocError>
+        ensures { Finds rule TYPE hash self.old result self.new }
+    {
+        self.sound();
+        match rule {
+            ResizeRule::Sampled => self.find_by_plan(hash),
+            ResizeRule::Counted => match self.grow_if_overfull(hash) {
+                Ok(true) => Ok((Side::Old, self.arrays.old_home(hash))),
+                Ok(false) => self.find_by_plan(hash),
+                Err(_) => self.find_by_plan(hash),
+            },
+        }
+    }
+
+    /// Finds the bucket for a writer of a hash, with no growth for an overfull home.
+    #[inline(always)]
+    fn find_by_plan(&mut self, hash: u64) -> Result<(Side, usize), AllocError>
+        ensures { (rule : ResizeRule) → Finds rule TYPE hash self.old result self.new }
     {
         self.arrays.find(&self.hasher, hash)
     }
@@ -86,7 +106,7 @@ impl<K: Eq + Drop, V: Drop, H: KeyHash<K>, L: LruList + Drop, const TYPE: u8> Ha
         ensures locked { IsLocked self.new.arrays result.0 result.1 }
         ensures home { IsHome (length (buckets_on self.new.arrays result.0)) hash result.1 }
         ensures found { (first : TableView K V H) → IsPrepared TYPE hash first self.old
-            → FindsBucket TYPE hash first result.0 result.1 self.new }
+            → FindsBucket Sampled TYPE hash first result.0 result.1 self.new }
     {
         let index = self.arrays.home(hash);
         let side = self.arrays.grow_at(hash, index);
@@ -97,7 +117,8 @@ impl<K: Eq + Drop, V: Drop, H: KeyHash<K>, L: LruList + Drop, const TYPE: u8> Ha
     /// shows that `find` changes nothing.
     #[inline(always)]
     pub(super) fn roomy_home(&self, hash: u64) -> Option<usize>
-        ensures { IfSome result (λ index. FindsBucket TYPE hash self.now Current index self.now) }
+        ensures { IfSome result (λ index. (rule : ResizeRule)
+            → FindsBucket rule TYPE hash self.now Current index self.now) }
     {
         self.arrays.roomy_home(hash)
     }
@@ -163,11 +184,11 @@ impl<K: Eq + Drop, V: Drop, H: KeyHash<K>, L: LruList + Drop, const TYPE: u8> Ha
         ensures same_table { IfOk result (λ locked. locked.table.ghost_name
             ≡ self.entry.ghost_name) }
         ensures found { IfOk result (λ locked.
-            FindsBucket TYPE hash self.old locked.side locked.index locked.table.now) }
+            FindsBucket Sampled TYPE hash self.old locked.side locked.index locked.table.now) }
         ensures succeeds { length self.old.arrays.linked ≡ 0 → 0 < length self.old.arrays.current
             → IsOk result }
     {
-        match self.find(hash) {
+        match self.find(hash, ResizeRule::Sampled) {
             Ok((side, index)) => Ok(self.lock(side, index)),
             Err(refused) => Err(refused),
         }
@@ -191,7 +212,7 @@ impl<K: Eq + Drop, V: Drop, H: KeyHash<K>, L: LruList + Drop, const TYPE: u8> Ha
         ensures same_table { IfOk result (λ locked. locked.table.ghost_name
             ≡ self.entry.ghost_name) }
         ensures found { IfOk result (λ locked.
-            FindsBucket TYPE hash self.old locked.side locked.index locked.table.now) }
+            FindsBucket Sampled TYPE hash self.old locked.side locked.index locked.table.now) }
         ensures succeeds { length self.old.arrays.linked ≡ 0 → 0 < length self.old.arrays.current
             → IsOk result }
     {

@@ -16,6 +16,8 @@ impl<K: Eq + Drop, V: Drop, H: KeyHash<K>> HashMap<K, V, H> {
     /// Allocation failure: the pair that wasn't inserted is returned, those before it are in the
     /// map, and those after it are still in the iterator. The map has no key equal to its key.
     ///
+    /// It makes no room first, so each insertion moves no more than one does alone.
+    ///
     /// O(pairs) expected, plus any resizes. Own: std's `HashMap::extend`, and nothing is lost.
     pub fn try_extend<I: Iterator<Item = (K, V)>>(
         &mut self,
@@ -38,7 +40,9 @@ impl<K: Eq + Drop, V: Drop, H: KeyHash<K>> HashMap<K, V, H> {
     }
 }
 
-/// Inserts the pairs of an iterator, as `try_extend` does.
+/// Makes room for the pairs that an iterator has at least, if it can be allocated, and inserts the
+/// pairs, as `try_extend` does. A map that has pairs makes room for half of them, rounded up, since
+/// it may have their keys already.
 ///
 /// If allocation fails, the pair that wasn't inserted is dropped, and so are those after it;
 /// `try_extend` loses none.
@@ -47,6 +51,7 @@ impl<K: Eq + Drop, V: Drop, H: KeyHash<K>> Extend<(K, V)> for HashMap<K, V, H> {
 
     fn extend<U: IntoIterator<Item = (K, V)>>(&mut self, iter: U) -> Result<(), AllocError> {
         let mut pairs = iter.into_iter();
+        self.reserve_for(pairs.size_hint().0);
         match self.try_extend(&mut pairs) {
             Ok(()) => Ok(()),
             Err(_) => Err(AllocError),
@@ -54,7 +59,7 @@ impl<K: Eq + Drop, V: Drop, H: KeyHash<K>> Extend<(K, V)> for HashMap<K, V, H> {
     }
 }
 
-/// Inserts copies of the pairs that an iterator borrows, as pairs by value.
+/// Inserts copies of the pairs that an iterator borrows, as pairs by value, and makes room first.
 impl<'a, K: Eq + Copy + 'a, V: Copy + 'a, H: KeyHash<K>> Extend<(&'a K, &'a V)>
     for HashMap<K, V, H> {
     ghost extend_gives = { λ old pairs new. PutsAll K.eq old (copied_pairs pairs) new };
@@ -63,8 +68,8 @@ impl<'a, K: Eq + Copy + 'a, V: Copy + 'a, H: KeyHash<K>> Extend<(&'a K, &'a V)>
         &mut self,
         iter: U,
     ) -> Result<(), AllocError> {
-        self.sound();
         let mut pairs = iter.into_iter();
+        self.reserve_for(pairs.size_hint().0);
         while let Some(pair) = pairs.next() {
             let (key, value) = pair;
             match self.upsert(*key, *value) {

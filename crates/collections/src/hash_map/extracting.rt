@@ -91,6 +91,11 @@ impl<'a, K: Eq + Drop, V: Drop, H: KeyHash<K>, F: FnMut(&K, &mut V) -> bool> Ite
     fn next(&mut self) -> Option<(K, V)> {
         self.taken.extract_next(&mut self.test)
     }
+
+    /// From 0 to the number of pairs that weren't tried yet. O(1).
+    fn size_hint(&self) -> (usize, Option<usize>) {
+        (0, self.taken.most_left())
+    }
 }
 
 impl<'a, K: Eq + Drop, V: Drop, H: KeyHash<K>, F: Drop> FusedIterator

@@ -9,6 +9,7 @@ ghost use Rattle.collections.specs.Slots.{LosesSlots};
 
 use crate::hash_map::HashMap;
 use crate::key_form::{FormProbe, KeyForm, value_hashed};
+use bucket_table::hash_table::ResizeRule;
 use bucket_table::key_hash::KeyHash;
 
 impl<K: Eq, V, H: KeyHash<K>> HashMap<K, V, H> {
@@ -82,7 +83,7 @@ impl<K: Eq + Drop, V: Drop, H: KeyHash<K>> HashMap<K, V, H> {
     {
         self.room.learn();
         self.table.sound();
-        let taken = self.table.take_by(hash, &mut FormProbe::<Q, H>::new(key));
+        let taken = self.table.take_by(hash, &mut FormProbe::<Q, H>::new(key), ResizeRule::Counted);
         self.table.sound();
         taken
     }

@@ -135,6 +135,26 @@ impl<K: Eq + Drop, V: Drop, H: KeyHash<K>> HashMap<K, V, H> {
         Ok(())
     }
 
+    /// Makes room for pairs of which at least `coming` come, if it can be allocated: for them all
+    /// in an empty map, and else for half of them, rounded up, since it may have their keys
+    /// already.
+    ///
+    /// Never fails. O(slots), and O(1) if there is room already.
+    pub(crate) fn reserve_for(&mut self, coming: usize)
+        ensures { Stays K.eq self.old self.new }
+    {
+        if coming == 0 {
+            self.sound();
+            return;
+        }
+        let expected = if self.is_empty() {
+            coming
+        } else {
+            coming.div_ceil(2)
+        };
+        let _ = self.try_reserve(expected);
+    }
+
     /// Moves all pairs into one array with room for so many, with no fewer slots than now.
     ///
     /// # Errors

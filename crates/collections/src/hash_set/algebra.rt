@@ -1,5 +1,5 @@
 //! The iterators over the keys that both of two sets have, that either has, or that only one has.
-ghost use Rattle.std.specs.Prelude.{◌≡◌};
+ghost use Rattle.std.specs.Prelude.{◌≡◌, ◌+◌, IfSome, IsSomeAnd};
 ghost use Rattle.std.specs.Iterator.{YieldsFirstRef, item_count};
 ghost use Rattle.collections.specs.Keys.{keys_of_either, keys_of_one, keys_outside, keys_within};
 
@@ -40,6 +40,11 @@ impl<'a, K: Eq, H: KeyHash<K>> Iterator for Intersection<'a, K, H> {
         }
         None
     }
+
+    /// From 0 to the number of keys that weren't looked up yet. O(1).
+    fn size_hint(&self) -> (usize, Option<usize>) {
+        (0, self.keys.size_hint().1)
+    }
 }
 
 impl<'a, K: Eq, H: KeyHash<K>> FusedIterator for Intersection<'a, K, H> {}
@@ -76,6 +81,11 @@ impl<'a, K: Eq, H: KeyHash<K>> Iterator for Difference<'a, K, H> {
         }
         None
     }
+
+    /// From 0 to the number of keys that weren't looked up yet. O(1).
+    fn size_hint(&self) -> (usize, Option<usize>) {
+        (0, self.keys.size_hint().1)
+    }
 }
 
 impl<'a, K: Eq, H: KeyHash<K>> FusedIterator for Difference<'a, K, H> {}
@@ -107,6 +117,13 @@ impl<'a, K: Eq, H: KeyHash<K>> Iterator for Union<'a, K, H> {
             return Some(key);
         }
         self.others.next()
+    }
+
+    /// From the number of the first set's keys that are left to that and those of the other that
+    /// weren't looked up yet. O(1).
+    fn size_hint(&self) -> (usize, Option<usize>) {
+        let (least, most) = self.own.size_hint();
+        (least, sum_of_bounds(most, self.others.size_hint().1))
     }
 }
 
@@ -141,9 +158,27 @@ impl<'a, K: Eq, H: KeyHash<K>> Iterator for SymmetricDifference<'a, K, H> {
         }
         self.others.next()
     }
+
+    /// From 0 to the number of keys that weren't looked up yet. O(1).
+    fn size_hint(&self) -> (usize, Option<usize>) {
+        (
+            0,
+            sum_of_bounds(self.own.size_hint().1, self.others.size_hint().1),
+        )
+    }
 }
 
 impl<'a, K: Eq, H: KeyHash<K>> FusedIterator for SymmetricDifference<'a, K, H> {}
+
+/// Returns the sum of two bounds; none where one is none, or where no `usize` is the sum.
+fn sum_of_bounds(own: Option<usize>, others: Option<usize>) -> Option<usize>
+    ensures { IfSome result (λ sum. IsSomeAnd own (λ x. IsSomeAnd others (λ y. sum ≡ x + y))) }
+{
+    match (own, others) {
+        (Some(x), Some(y)) => x.checked_add(y),
+        _ => None,
+    }
+}
 
 impl<K: Eq, H: KeyHash<K>> HashSet<K, H> {
     /// Returns an iterator over the set's own keys that another set has too, in the order of the

@@ -17,6 +17,8 @@ impl<K: Eq + Drop, H: KeyHash<K>> HashSet<K, H> {
     /// Allocation failure: the key that wasn't inserted is returned, those before it are in the
     /// set, and those after it are still in the iterator. The set has no key equal to it.
     ///
+    /// It makes no room first, so each insertion moves no more than one does alone.
+    ///
     /// O(keys) expected, plus any resizes. Own: std's `HashSet::extend`, and nothing is lost.
     pub fn try_extend<I: Iterator<Item = K>>(&mut self, keys: &mut I) -> Result<(), AllocFailed<K>>
         requires can { I.can_next keys.old }
@@ -35,7 +37,9 @@ impl<K: Eq + Drop, H: KeyHash<K>> HashSet<K, H> {
     }
 }
 
-/// Inserts the keys of an iterator, as `try_extend` does.
+/// Makes room for the keys that an iterator has at least, if it can be allocated, and inserts the
+/// keys, as `try_extend` does. A set that has keys makes room for half of them, rounded up, since
+/// it may have them already.
 ///
 /// If allocation fails, the key that wasn't inserted is dropped, and so are those after it;
 /// `try_extend` loses none.
@@ -44,6 +48,7 @@ impl<K: Eq + Drop, H: KeyHash<K>> Extend<K> for HashSet<K, H> {
 
     fn extend<U: IntoIterator<Item = K>>(&mut self, iter: U) -> Result<(), AllocError> {
         let mut keys = iter.into_iter();
+        self.reserve_for(keys.size_hint().0);
         match self.try_extend(&mut keys) {
             Ok(()) => Ok(()),
             Err(_) => Err(AllocError),
@@ -51,13 +56,13 @@ impl<K: Eq + Drop, H: KeyHash<K>> Extend<K> for HashSet<K, H> {
     }
 }
 
-/// Inserts copies of the keys that an iterator borrows, as keys by value.
+/// Inserts copies of the keys that an iterator borrows, as keys by value, and makes room first.
 impl<'a, K: Eq + Copy + 'a, H: KeyHash<K>> Extend<&'a K> for HashSet<K, H> {
     ghost extend_gives = { λ old keys new. PutsKeys K.eq old (map (λ key. key.now) keys) new };
 
     fn extend<U: IntoIterator<Item = &'a K>>(&mut self, iter: U) -> Result<(), AllocError> {
-        self.map.sound();
         let mut keys = iter.into_iter();
+        self.reserve_for(keys.size_hint().0);
         while let Some(key) = keys.next() {
             match self.insert(*key) {
                 Ok(_added) => {}

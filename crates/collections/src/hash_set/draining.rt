@@ -38,6 +38,11 @@ impl<K: Drop> Iterator for Drain<K> {
     fn next(&mut self) -> Option<K> {
         self.inner.next()
     }
+
+    /// As that of a map's keys. O(1).
+    fn size_hint(&self) -> (usize, Option<usize>) {
+        self.inner.size_hint()
+    }
 }
 
 impl<K: Drop> FusedIterator for Drain<K> {}

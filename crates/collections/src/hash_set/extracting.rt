@@ -78,6 +78,11 @@ impl<'a, K: Eq + Drop, H: KeyHash<K>, F: FnMut(&K) -> bool> Iterator
             None => None,
         }
     }
+
+    /// From 0 to the number of keys that weren't tried yet. O(1).
+    fn size_hint(&self) -> (usize, Option<usize>) {
+        (0, self.taken.most_left())
+    }
 }
 
 impl<'a, K: Eq + Drop, H: KeyHash<K>, F: Drop> FusedIterator

@@ -36,7 +36,7 @@ impl<'a, K> Iterator for Iter<'a, K> {
         self.inner.next()
     }
 
-    /// As that of a map's keys.
+    /// As that of a map's keys. O(1).
     fn size_hint(&self) -> (usize, Option<usize>) {
         self.inner.size_hint()
     }

@@ -1,7 +1,7 @@
 //! How many slots a set has, as a map has them: reserving room, and freeing slots.
 ghost use Rattle.std.specs.Prelude.{◌≡◌, ◌^◌, [], min};
 ghost use Rattle.collections.specs.Capacity.{IsMinimumFor, MakesRoom, ShrinksTo, ShrinksToFit};
-ghost use Rattle.collections.specs.Changes.{Reserves};
+ghost use Rattle.collections.specs.Changes.{Reserves, Stays};
 ghost use Rattle.collections.specs.Maps.{IsEmpty};
 
 use crate::default_hash::DefaultHash;
@@ -91,6 +91,13 @@ impl<K: Eq + Drop, H: KeyHash<K>> HashSet<K, H> {
         ensures { MakesRoom K.eq additional self.old result self.new }
     {
         self.map.try_reserve(additional)
+    }
+
+    /// Makes room for keys of which at least `coming` come, as the map does for pairs.
+    pub(crate) fn reserve_for(&mut self, coming: usize)
+        ensures { Stays K.eq self.old self.new }
+    {
+        self.map.reserve_for(coming);
     }
 
     /// Sets the minimum to 0, and leaves as few slots as the keys take, as `HashMap::shrink_to_fit`

@@ -159,6 +159,45 @@ fn fullest_of_index(index: &HashIndex<u64, u64>) -> usize {
     fullest
 }
 
+// Removes some of a map's keys.
+fn remove_range(map: &mut HashMap<u64, u64>, keys: &[u64], from: usize, to: usize) {
+    for at in from..to {
+        if let Some(key) = keys.get(at) {
+            let _ = map.remove(key);
+        }
+    }
+}
+
+// Keys go from the buckets that the samples of a resize read: those in the middle, the last but one
+// key, and then the first. Three of four pairs are left, which the samples don't see.
+#[test]
+fn a_map_keeps_slots_for_the_pairs_that_no_sample_sees(rt: HostRuntime) -> Result<(), Fail> {
+    let mut map = filled(rt.alloc());
+    let keys: Vec<u64> = map.keys().copied().collect(rt.alloc())?;
+    let part = KEYS / 16;
+    remove_range(&mut map, &keys, part * 7, part * 9);
+    remove_range(&mut map, &keys, part * 15, KEYS - 1);
+    remove_range(&mut map, &keys, 0, part);
+    let left = map.len();
+    check_same(&rt, left, 15001, "left");
+    check_same(&rt, left <= map.capacity(), true, "slots");
+    check_same(&rt, fullest_of(&map) <= MOST, true, "fullest");
+    Ok(())
+}
+
+// As few are left as the samples say: the slots are freed.
+#[test]
+fn a_map_frees_the_slots_of_most_of_its_pairs(rt: HostRuntime) -> Result<(), Fail> {
+    let mut map = filled(rt.alloc());
+    for key in 100..KEYS as u64 {
+        let _ = map.remove(&key);
+    }
+    let (left, slots) = (map.len(), map.capacity());
+    check_same(&rt, left, 100, "left");
+    check_same(&rt, slots <= left.saturating_mul(16), true, ("slots", slots));
+    Ok(())
+}
+
 // All keys have one hash, so more slots would help none: the slots stay within 16 for each pair.
 #[test]
 fn a_map_of_one_hash_grows_no_further(rt: HostRuntime) -> Result<(), Fail> {

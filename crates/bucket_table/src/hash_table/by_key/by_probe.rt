@@ -7,13 +7,14 @@ ghost use Rattle.bucket_slots.specs.Marking.{MarksBy, slots_marked};
 ghost use Rattle.bucket_slots.specs.Removing.{slots_without};
 ghost use Rattle.bucket_table.specs.Map.ByKey.{Marks, PreparesThen, ShrinksAt};
 ghost use Rattle.bucket_table.specs.Map.ByKey.{StandsAt, Takes};
+ghost use Rattle.bucket_table.specs.Map.Counting.{pairs_left};
 ghost use Rattle.bucket_table.specs.Map.LookingUp.{IsAbsent, IsThere};
 ghost use Rattle.bucket_table.specs.Map.MapState.{state_of};
 ghost use Rattle.bucket_table.specs.Map.Preparing.{IsReady};
 ghost use Rattle.bucket_table.specs.Views.ArraysView.{marks_of, pairs_of};
 
-use crate::arrays::{Side, Spot, some_len};
-use crate::hash_table::HashTable;
+use crate::arrays::{Side, Spot};
+use crate::hash_table::{HashTable, ResizeRule};
 use crate::key_hash::KeyHash;
 use bucket_slots::bucket::{Generation, INDEX, KeyProbe};
 use bucket_slots::lru::LruList;
@@ -29,11 +30,16 @@ impl<K: Eq + Drop, V: Drop, H: KeyHash<K>, L: LruList + Drop, const TYPE: u8> Ha
     /// none. The probe wants keys of this hash alone.
     ///
     /// Works a unit. May take memory, and never fails. If no live pair is left in the bucket, the
-    /// table may shrink.
+    /// table may shrink, by the rule `rule`.
     ///
     /// O(unit; buckets if it shrinks). Own.
     #[inline(always)]
-    pub fn take_by<P: KeyProbe<K>>(&mut self, hash: u64, probe: &mut P) -> Option<(K, V)>
+    pub fn take_by<P: KeyProbe<K>>(
+        &mut self,
+        hash: u64,
+        probe: &mut P,
+        rule: ResizeRule,
+    ) -> Option<(K, V)>
         requires not_index { TYPE ≢ INDEX }
         requires own_hash { (key : K)
             → P.wants probe.old key ≡ true
@@ -41,16 +47,18 @@ impl<K: Eq + Drop, V: Drop, H: KeyHash<K>, L: LruList + Drop, const TYPE: u8> Ha
         ensures map { Takes (P.wants probe.old) (state_of TYPE self.old) result
             (state_of TYPE self.new) }
         ensures arrays { PreparesThen TYPE hash self.old (λ between.
-            ShrinksAt (P.wants probe.old) slots_without (is_some result) between self.new) }
+            ShrinksAt (P.wants probe.old) slots_without (pairs_left rule self.old.arrays)
+            (is_some result) between self.new) }
         ensures fixed { P.wants probe.new ≡ P.wants probe.old }
     {
+        let pairs = self.pairs_left(rule);
         let _ready = self.fetch_home(hash);
-        if let Some(pair) = self.arrays.search_and_take(Side::Old, hash, probe) {
-            self.count = self.arrays.count_after(self.count, 1, 0);
+        if let Some(pair) = self.arrays.search_and_take(Side::Old, hash, probe, pairs) {
+            self.arrays.count_taken(&mut self.count);
             return Some(pair);
         }
-        let taken = self.arrays.take_on(Side::Current, hash, probe);
-        self.count = self.arrays.count_after(self.count, some_len(&taken), 0);
+        let taken = self.arrays.take_on(Side::Current, hash, probe, pairs);
+        self.arrays.count_removal(&mut self.count, &taken);
         taken
     }
 
@@ -59,7 +67,7 @@ impl<K: Eq + Drop, V: Drop, H: KeyHash<K>, L: LruList + Drop, const TYPE: u8> Ha
     /// isn't called then. The probe wants keys of this hash alone.
     ///
     /// Works a unit. May take memory, and never fails. If no live pair is left in the bucket, the
-    /// table may shrink.
+    /// table may shrink, by the rule `rule`.
     ///
     /// O(unit; buckets if it shrinks). Own.
     pub fn mark_by<R, F: FnOnce(&K, &V) -> R, G: Generation, P: KeyProbe<K>>(
@@ -67,6 +75,7 @@ impl<K: Eq + Drop, V: Drop, H: KeyHash<K>, L: LruList + Drop, const TYPE: u8> Ha
         hash: u64,
         probe: &mut P,
         generation: &G,
+        rule: ResizeRule,
         reader: F,
     ) -> Option<R>
         requires index { TYPE ≡ INDEX }
@@ -79,19 +88,20 @@ impl<K: Eq + Drop, V: Drop, H: KeyHash<K>, L: LruList + Drop, const TYPE: u8> Ha
         ensures map { Marks (P.wants probe.old) (λ own value answer. F.post reader own value answer)
             (state_of TYPE self.old) result (state_of TYPE self.new) }
         ensures arrays { PreparesThen TYPE hash self.old (λ between. ShrinksAt (P.wants probe.old)
-            (λ bucket at. slots_marked bucket at (G.epoch_of generation.now)) (is_some result)
-            between self.new) }
+            (λ bucket at. slots_marked bucket at (G.epoch_of generation.now))
+            (pairs_left rule self.old.arrays) (is_some result) between self.new) }
         ensures marks { MarksBy (G.epoch_of generation.now) (marks_of self.old.arrays)
             (marks_of self.new.arrays) }
         ensures fixed { P.wants probe.new ≡ P.wants probe.old }
     {
+        let pairs = self.pairs_left(rule);
         match self.fetch_spot(hash, probe) {
             Some(mut spot) => {
                 let (key, value) = self.arrays.entry_of(spot.side, spot.index, &spot.at);
                 let answer = reader(key, value);
                 self.arrays
-                    .mark_at(spot.side, spot.index, &mut spot.at, generation);
-                self.count = self.arrays.count_after(self.count, 1, 0);
+                    .mark_at(spot.side, spot.index, &mut spot.at, generation, pairs);
+                self.arrays.count_taken(&mut self.count);
                 Some(answer)
             }
             None => None,
@@ -100,6 +110,17 @@ impl<K: Eq + Drop, V: Drop, H: KeyHash<K>, L: LruList + Drop, const TYPE: u8> Ha
 }
 
 impl<K: Eq, V, H: KeyHash<K>, L: LruList, const TYPE: u8> HashTable<K, V, H, L, TYPE> {
+    /// Returns how many pairs a removal leaves, if the rule goes by it.
+    #[inline(always)]
+    fn pairs_left(&self, rule: ResizeRule) -> Option<usize>
+        ensures { result ≡ pairs_left rule self.now.arrays }
+    {
+        match rule {
+            ResizeRule::Sampled => None,
+            ResizeRule::Counted => Some(self.count.get().saturating_sub(1)),
+        }
+    }
+
     /// Returns the first live slot that a probe wants, on either side; `None` where the map has
     /// none. Moves nothing, and takes no memory.
     ///

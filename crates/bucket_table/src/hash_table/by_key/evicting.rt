@@ -7,22 +7,23 @@ ghost use Rattle.bucket_slots.specs.Homes.{IsHome};
 ghost use Rattle.bucket_slots.specs.Sizing.{IsLength};
 ghost use Rattle.bucket_table.specs.Map.ByKey.{Evicts, PreparesThen};
 ghost use Rattle.bucket_table.specs.Map.Finding.{FindsThen};
-ghost use Rattle.bucket_table.specs.Map.FindingGrown.{FindsOrSplitsThen, SplitsReady};
 ghost use Rattle.bucket_table.specs.Map.LookingUp.{IsAbsent};
 ghost use Rattle.bucket_table.specs.Map.MapState.{KeepsPairs, state_of};
 ghost use Rattle.bucket_table.specs.Map.Preparing.{IsPrepared, IsReady};
 ghost use Rattle.bucket_table.specs.Map.Putting.{EvictsAt, Goes, Puts, PutsAt, PutsIn};
 ghost use Rattle.bucket_table.specs.Map.Putting.{slots_left, slots_put};
+ghost use Rattle.bucket_table.specs.Map.Splitting.{FindsOrSplitsThen, SplitsReady};
 ghost use Rattle.bucket_table.specs.Map.Vacancies.{IsVacancy};
 ghost use Rattle.bucket_table.specs.Resize.Overfull.{TriesSplit};
 ghost use Rattle.bucket_table.specs.Views.ArraysView.{TableView, pairs_of};
 ghost use Rattle.bucket_table.specs.Views.Locking.{IsLocked};
 ghost use Rattle.bucket_table.specs.Views.Sides.{bucket_on, buckets_on, with_bucket};
+ghost use Rattle.bucket_table.specs.declared.hash_table.ResizeRule.TheVariants.{Sampled};
 ghost use Rattle.bucket_table.specs.declared.hash_table.NotInserted.TheVariants.{Present};
 ghost use Rattle.bucket_table.specs.declared.hash_table.Vacancy.TheVariants.{Ready};
 
 use crate::arrays::{Side, put_len, some_len};
-use crate::hash_table::{HashTable, Missing, NotInserted, Vacancy};
+use crate::hash_table::{HashTable, Missing, NotInserted, ResizeRule, Vacancy};
 use crate::key_hash::KeyHash;
 use bucket_slots::bucket::{Bucket, CACHE};
 use bucket_slots::lru::LruList;
@@ -75,9 +76,9 @@ impl<K: Eq + Drop, V: Drop, H: KeyHash<K>, L: LruList + Drop, const TYPE: u8> Ha
     pub fn put(&mut self, key: K, value: V) -> Result<Option<(K, V)>, NotInserted<K, V>>
         requires cache { TYPE ≡ CACHE }
         ensures map { Puts K.eq key value (state_of TYPE self.old) result (state_of TYPE self.new) }
-        ensures arrays { FindsThen TYPE (H.hash_of self.old.hasher key) self.old (λ answer between.
-            PutsAt L.KEEPS (key, value) (H.hash_of self.old.hasher key % 256) between result answer
-            self.new) }
+        ensures arrays { FindsThen Sampled TYPE (H.hash_of self.old.hasher key) self.old
+            (λ answer between. PutsAt L.KEEPS (key, value) (H.hash_of self.old.hasher key % 256)
+            between result answer self.new) }
     {
         let hash = self.hash(&key);
         self.put_hashed(hash, key, value)
@@ -166,10 +167,10 @@ impl<K: Eq + Drop, V: Drop, H: KeyHash<K>, L: LruList + Drop, const TYPE: u8> Ha
         requires cache { TYPE ≡ CACHE }
         requires own_hash { hash ≡ H.hash_of self.old.hasher key }
         ensures map { Puts K.eq key value (state_of TYPE self.old) result (state_of TYPE self.new) }
-        ensures arrays { FindsThen TYPE hash self.old (λ answer between.
+        ensures arrays { FindsThen Sampled TYPE hash self.old (λ answer between.
             PutsAt L.KEEPS (key, value) (hash % 256) between result answer self.new) }
     {
-        let Ok((side, index)) = self.find(hash) else {
+        let Ok((side, index)) = self.find(hash, ResizeRule::Sampled) else {
             return Err(self.not_inserted(hash, key, value));
         };
         self.put_at(side, index, hash, key, value)
@@ -200,7 +201,7 @@ impl<K: Eq + Drop, V: Drop, H: KeyHash<K>, L: LruList + Drop, const TYPE: u8> Ha
         let bucket = self.arrays.bucket_of_mut(side, index);
         let gone = put_absent_in(bucket, hash, key, value);
         self.arrays.settle_on(side, index);
-        self.count = self.arrays.count_after(self.count, some_len(&gone), 1);
+        self.count = self.arrays.count_after(&self.count, some_len(&gone), 1);
         gone
     }
 
@@ -227,7 +228,7 @@ impl<K: Eq + Drop, V: Drop, H: KeyHash<K>, L: LruList + Drop, const TYPE: u8> Ha
         let bucket = self.arrays.bucket_of_mut(side, index);
         let done = put_in(bucket, hash, key, value);
         self.arrays.settle_on(side, index);
-        self.count = self.arrays.count_after(self.count, 0, put_len(&done));
+        self.count = self.arrays.count_after(&self.count, 0, put_len(&done));
         done
     }
 }

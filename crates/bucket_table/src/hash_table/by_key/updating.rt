@@ -16,7 +16,7 @@ ghost use Rattle.bucket_table.specs.Views.Locking.{IsLocked};
 ghost use Rattle.bucket_table.specs.Views.Sides.{bucket_on, buckets_on, with_bucket};
 
 use crate::arrays::{Side, put_len};
-use crate::hash_table::HashTable;
+use crate::hash_table::{HashTable, ResizeRule};
 use crate::key_hash::KeyHash;
 use bucket_slots::bucket::{EqProbe, Generation, KeyProbe};
 use bucket_slots::lru::LruList;
@@ -86,7 +86,7 @@ impl<K: Eq + Drop, V: Drop, H: KeyHash<K>, L: LruList + Drop, const TYPE: u8> Ha
     }
 
     /// Inserts a pair, or writes its value beside the equal key, which stays, and returns the
-    /// earlier value.
+    /// earlier value. The table may grow, by the rule `rule`.
     ///
     /// Never fails if the key is in the map.
     ///
@@ -102,18 +102,19 @@ impl<K: Eq + Drop, V: Drop, H: KeyHash<K>, L: LruList + Drop, const TYPE: u8> Ha
         key: K,
         value: V,
         generation: &G,
+        rule: ResizeRule,
     ) -> Result<Option<V>, (K, V)>
         ensures map { Upserts K.eq key value (state_of TYPE self.old) result
             (state_of TYPE self.new) }
-        ensures arrays { FindsThen TYPE (H.hash_of self.old.hasher key) self.old (λ answer between.
-            UpsertsAt K.eq TYPE (G.keeps generation.now) key value
+        ensures arrays { FindsThen rule TYPE (H.hash_of self.old.hasher key) self.old
+            (λ answer between. UpsertsAt K.eq TYPE (G.keeps generation.now) key value
             (H.hash_of self.old.hasher key % 256) between result answer self.new) }
     {
         let hash = self.hash(&key);
         if let Some(index) = self.roomy_home(hash) {
             return self.upsert_at(Side::Current, index, hash, key, value, generation);
         }
-        self.upsert_found(hash, key, value, generation)
+        self.upsert_found(hash, key, value, generation, rule)
     }
 
     /// Finds a bucket for a pair, and inserts it there or writes its value.
@@ -124,15 +125,16 @@ impl<K: Eq + Drop, V: Drop, H: KeyHash<K>, L: LruList + Drop, const TYPE: u8> Ha
         key: K,
         value: V,
         generation: &G,
+        rule: ResizeRule,
     ) -> Result<Option<V>, (K, V)>
         requires own_hash { hash ≡ H.hash_of self.old.hasher key }
         ensures map { Upserts K.eq key value (state_of TYPE self.old) result
             (state_of TYPE self.new) }
-        ensures arrays { FindsThen TYPE (H.hash_of self.old.hasher key) self.old (λ answer between.
-            UpsertsAt K.eq TYPE (G.keeps generation.now) key value
+        ensures arrays { FindsThen rule TYPE (H.hash_of self.old.hasher key) self.old
+            (λ answer between. UpsertsAt K.eq TYPE (G.keeps generation.now) key value
             (H.hash_of self.old.hasher key % 256) between result answer self.new) }
     {
-        match self.find(hash) {
+        match self.find(hash, rule) {
             Ok((side, index)) => self.upsert_at(side, index, hash, key, value, generation),
             Err(_) => match self.spot_of(&key, hash) {
                 Some(spot) => Ok(Some(self.swap_at(&spot, value))),
@@ -165,7 +167,7 @@ impl<K: Eq + Drop, V: Drop, H: KeyHash<K>, L: LruList + Drop, const TYPE: u8> Ha
         let done = self
             .arrays
             .upsert_home(side, index, hash, key, value, generation);
-        self.count = self.arrays.count_after(self.count, 0, put_len(&done));
+        self.count = self.arrays.count_after(&self.count, 0, put_len(&done));
         done
     }
 }

@@ -2,9 +2,10 @@
 ghost use Rattle.std.specs.Prelude.{◌≡◌, None, IfErr, IfOk, OnOk};
 ghost use Rattle.std.specs.Borrow.{sem};
 ghost use Rattle.std.specs.Map.{lookup};
-ghost use Rattle.bucket_table.specs.Map.FindingGrown.{FindsOrGrows};
+ghost use Rattle.bucket_table.specs.Map.Finding.{Finds};
 ghost use Rattle.bucket_table.specs.Map.LookingUp.{IsAbsent};
 ghost use Rattle.bucket_table.specs.Views.ArraysView.{pairs_of};
+ghost use Rattle.bucket_table.specs.declared.hash_table.ResizeRule.TheVariants.{Counted};
 ghost use Rattle.collections.specs.Maps.{get};
 ghost use Rattle.collections.specs.Room.{MapFits};
 
@@ -12,7 +13,7 @@ use crate::hash_map::HashMap;
 use crate::hash_map::entry::VacantEntry;
 use crate::homes::learn_homes;
 use bucket_slots::bucket::MAP;
-use bucket_table::hash_table::{HashTable, Side};
+use bucket_table::hash_table::{HashTable, ResizeRule, Side};
 use bucket_table::key_hash::KeyHash;
 use std::alloc::{AllocError, AllocFailed};
 
@@ -110,10 +111,10 @@ fn find_absent<K: Eq + Drop, V: Drop, H: KeyHash<K>>(
     requires fits { MapFits K.row V.row H.row K.PartialEq H.KeyHash }
     requires hashed { hash ≡ H.hash_of table.old.hasher key.now }
     requires absent { lookup (K.eq key.now) (pairs_of table.old.arrays) ≡ None }
-    ensures found { FindsOrGrows MAP hash table.old result table.new }
+    ensures found { Finds Counted MAP hash table.old result table.new }
     ensures hashed { hash ≡ H.hash_of table.new.hasher key.now }
     ensures absent { OnOk result
         (IsAbsent (λ own. K.eq own key.now) (pairs_of table.new.arrays)) }
 {
-    table.find_or_grow(hash)
+    table.find(hash, ResizeRule::Counted)
 }

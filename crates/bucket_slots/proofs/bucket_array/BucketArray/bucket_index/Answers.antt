@@ -5,5 +5,5 @@ use Rattle.bucket_slots.proofs.bucket_array.BucketArray.bucket_index.Goals as go
 pub returns : goal.returns
 returns g c =
     let kept = c.self.invariant.0 in
-    let len_is = ap length (sym c.self.view_is) ∙ sym c.self.invariant.1.len_is ∙ kept.len_is in
+    let len_is = ap length (sym c.self.view_is) ∙ kept.len_is in
     home_by_offset c.args.hash _ c.self.inside.hash_offset kept.offset_positive kept.offset_in_range len_is (search rules)

@@ -3,7 +3,7 @@ use Rattle.bucket_table.proofs.arrays.Arrays.mark_at.Goals as goal
 
 pub returns-clause-asked : goal.returns-clause-asked
 returns-clause-asked g c =
-    shrinks_after _ c.args.side c.args.index _ c.shrink_left.new.self c.requires.within
+    shrinks_after c.args.pairs _ c.args.side c.args.index _ c.shrink_left.new.self c.requires.within
     (rw c.mark_slot-left.ensures.arrays at c.shrink_left.ensures.asked)
 
 pub returns-clause-kept : goal.returns-clause-kept

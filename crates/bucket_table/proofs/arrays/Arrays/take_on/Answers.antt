@@ -35,7 +35,8 @@ returns-clause-taken g c =
       stands = stands_found (g.P.KeyProbe.wants c.args.probe.now) c.args.self.now c.args.side
           (buckets_on c.args.self.now c.args.side) _ (c.args.hash % 256) c.bucket_index-index.result _ refl refl within taken.found;
       taken = taken.taken;
-      asked = shrinks_after c.args.self.now c.args.side c.bucket_index-index.result _ c.shrink_left.new.self within asked.asked;
+      asked = shrinks_after c.args.pairs c.args.self.now c.args.side c.bucket_index-index.result _ c.shrink_left.new.self within
+          asked.asked;
       kept = asked.kept;
       placed = asked.placed;
     }

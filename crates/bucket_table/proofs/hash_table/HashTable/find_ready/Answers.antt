@@ -1,5 +1,6 @@
 use Rattle.bucket_table.proofs.Map.Finding.{found_ready}
 use Rattle.bucket_table.proofs.Map.Counted.{map_kept}
+use Rattle.bucket_table.specs.declared.hash_table.ResizeRule.TheVariants.{Sampled}
 use Rattle.bucket_table.proofs.Map.MapKept.{state_found}
 use Rattle.bucket_table.proofs.Resize.Growing.{home_grown, locked_grown, locked_ready}
 use Rattle.bucket_table.proofs.hash_table.HashTable.find_ready.Goals as goal
@@ -37,4 +38,4 @@ returns-clause-found g c = λ first prepared.
     let home = home_grown c.grow_at-side.result c.args.hash c.home-index.result c.self.inside.arrays c.grow_at-side.new.self e.grown
     c.home-index.ensures in
     found_ready g.row.TYPE c.args.hash c.self.inside.hasher c.self.inside.arrays c.grow_at-side.new.self first c.grow_at-side.result
-    c.home-index.result (rw (← c.self.view_is) at prepared) ready c.home-index.ensures e.kept e.asked e.grown locked home
+    c.home-index.result (rw (← c.self.view_is) at prepared) ready c.home-index.ensures e.kept e.asked e.grown locked home Sampled

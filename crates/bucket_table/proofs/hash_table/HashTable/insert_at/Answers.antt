@@ -1,4 +1,4 @@
-use Rattle.bucket_table.proofs.Words.{arrays_with, slots_after_insertion, sym, ◌%◌, ◌∙◌}
+use Rattle.bucket_table.proofs.Words.{arrays_with, refl, slots_after_insertion, sym, ◌%◌, ◌∙◌}
 use Rattle.bucket_table.proofs.Map.Inserting.{inserted_where_absent}
 use Rattle.bucket_table.proofs.Map.LockedSteps.{put_if_ok, same_if_err}
 use Rattle.bucket_table.proofs.Map.Counted.{counted_after, len_inserted}
@@ -12,10 +12,10 @@ invariant_of-self g c =
     (g.G.Generation.keeps c.args.generation.now) c.args.key c.args.value c.args.hash
     (λ own equal. g.met.H.KeyHash.alike c.self.inside.hasher own c.args.key equal ∙ sym (rw (← c.self.view_is) at c.requires.own_hash))
     (rw (← c.self.view_is) at c.requires.own_hash) (rw (← c.self.view_is) at c.requires.home) answer put unchanged in
-    counted_after c.self.invariant (rw is x.one_map) 0 c.ok_len.result
+    counted_after c.self.invariant (rw is x.one_map) 0 _
     (rw is (len_inserted g.row.TYPE c.self.inside.hasher c.self.inside.arrays
     (arrays_with c.self.inside.arrays c.args.side c.args.index left) g.K.PartialEq.eq c.args.key c.args.value c.insert_home-done.result _
-    c.ok_len.ensures x.map)) c.count_after-self-inside.ensures
+    refl x.map)) c.count_insertion.ensures
 
 pub returns-clause-map : goal.returns-clause-map
 returns-clause-map g c =

@@ -14,7 +14,7 @@ invariant_of-self g c =
     let e = c.mark_at.ensures in
     let x = marks g.met.K.Eq.laws g.H.KeyHash.hash_of g.row.TYPE o.side o.index c.self.invariant.one_map stands.within o.at stands.pair
     stands.slot _ _ e.kept e.placed in
-    counted_after c.self.invariant x.one_map 1 0 (len_taken x.map) c.count_after-self-inside.ensures
+    counted_after c.self.invariant x.one_map 1 0 (len_taken x.map) c.count_taken.ensures
 
 pub returns-in-Some-clause-map : goal.returns-in-Some-clause-map
 returns-in-Some-clause-map g c =
@@ -43,7 +43,7 @@ returns-in-Some-clause-arrays g c = record {
     c.in-Some.spot.index,
     c.in-Some.spot.at,
     c.in-Some.ensures.found,
-    rw (← c.self.view_is) c.mark_at.ensures.asked,
+    rw (← c.self.view_is, ← c.pairs_left-pairs.ensures) c.mark_at.ensures.asked,
   );
 }
 

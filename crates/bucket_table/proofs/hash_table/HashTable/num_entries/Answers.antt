@@ -1,3 +1,4 @@
+use Rattle.bucket_table.proofs.Words.{◌∙◌}
 use Rattle.bucket_table.proofs.Map.CountSteps.{kept_alone}
 use Rattle.bucket_table.proofs.Map.Counted.{map_kept}
 use Rattle.bucket_table.proofs.Map.MapKept.{state_found}
@@ -15,7 +16,8 @@ returns-clause-map g c = rw (← c.self.view_is) (state_found g.row.TYPE _ _ c.c
 pub returns-clause-count : goal.returns-clause-count
 returns-clause-count g c =
     let e = c.count_on.ensures in
-    (map_kept g.K.PartialEq.eq g.met.K.Eq.laws (g.H.KeyHash.hash_of c.self.inside.hasher) c.self.inside.arrays c.count_on.new.self
+    c.get-2.ensures
+    ∙ (map_kept g.K.PartialEq.eq g.met.K.Eq.laws (g.H.KeyHash.hash_of c.self.inside.hasher) c.self.inside.arrays c.count_on.new.self
     c.self.invariant e.kept e.placed).counted
 
 pub returns-clause-alone : goal.returns-clause-alone

@@ -1,3 +1,4 @@
+use Rattle.bucket_table.proofs.Words.{rules}
 use Rattle.bucket_table.specs.declared.arrays.side.Side.TheVariants.{Current}
 use Rattle.bucket_table.proofs.Map.Upserting.{found_upserted}
 use Rattle.bucket_table.proofs.hash_table.HashTable.upsert.Goals as goal
@@ -7,4 +8,9 @@ returns-in-Some-clause-arrays g c =
     let (left, put, is) = c.upsert_at.ensures.bucket in
     found_upserted g.K.PartialEq.eq g.row.TYPE c.hash-hash.result (g.H.KeyHash.hash_of c.args.self.now.hasher c.args.key)
     (g.G.Generation.keeps c.args.generation.now) c.args.key c.args.value c.args.self.now c.args.self.now c.upsert_at.new.self
-    Current c.in-Some.index c.upsert_at.result left c.hash-hash.ensures c.in-Some.ensures put is
+    Current c.in-Some.index c.upsert_at.result left c.hash-hash.ensures (c.in-Some.ensures c.args.rule) put is
+
+pub upsert_at-requires : goal.upsert_at-requires
+upsert_at-requires g c =
+    let found = c.in-Some.ensures c.args.rule in
+    (search rules, (found.locked, (c.hash-hash.ensures, found.home)))

@@ -11,4 +11,4 @@ returns-clause-map g c =
 pub returns-clause-place : goal.returns-clause-place
 returns-clause-place g c =
     rw (← c.self.view_is, ← c.new.ensures.form) (leaves_place _ c.self.inside.table c.take_by-taken.new.self
-    (g.Q.KeyForm.stands_for c.new.result.form) _ c.take_by-taken.ensures.arrays)
+    (g.Q.KeyForm.stands_for c.new.result.form) _ _ c.take_by-taken.ensures.arrays)

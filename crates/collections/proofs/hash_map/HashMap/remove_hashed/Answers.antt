@@ -1,6 +1,6 @@
 use Rattle.std.proofs.Common.{is_some}
 use Rattle.bucket_slots.specs.Removing.{slots_without}
-use Rattle.collections.proofs.Slots.{taken_loses}
+use Rattle.collections.proofs.Slots.{fewer_taken, taken_loses}
 use Rattle.collections.proofs.Steps.{removes}
 use Rattle.collections.proofs.hash_map.HashMap.remove_hashed.Goals as goal
 
@@ -11,4 +11,7 @@ returns-clause-map g c = rw (← c.self.view_is, ← c.new.ensures.form) (remove
 
 pub returns-clause-slots : goal.returns-clause-slots
 returns-clause-slots g c = rw (← c.self.view_is) (taken_loses 83 c.args.hash c.self.inside.table c.take_by-taken.new.self
-    (g.Q.KeyForm.stands_for c.new.result.form) slots_without (is_some c.take_by-taken.result) c.take_by-taken.ensures.arrays)
+    (g.Q.KeyForm.stands_for c.new.result.form) slots_without (is_some c.take_by-taken.result) c.sound.ensures.long
+    (fewer_taken 83 (g.Q.KeyForm.stands_for c.new.result.form) c.self.inside.table c.take_by-taken.new.self c.take_by-taken.result
+    c.take_by-taken.ensures.map)
+    c.take_by-taken.ensures.arrays)

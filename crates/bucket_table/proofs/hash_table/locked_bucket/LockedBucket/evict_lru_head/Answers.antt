@@ -13,9 +13,9 @@ invariant_of-table g c =
     let e = rw c.bucket_of_mut.ensures.bucket at c.evict_lru_head-gone.ensures in
     let x = evicted g.met.K.Eq.laws g.H.KeyHash.hash_of g.row.TYPE o.side o.index c.table.invariant.one_map (changeable_locked _ _ _ locked)
     c.evict_lru_head-gone.result c.evict_lru_head-gone.new.self e.pair e.slots e.unchanged in
-    counted_after c.table.invariant (rw c.settle_on.ensures x.one_map) c.some_len.result 0
-    (rw c.settle_on.ensures (len_evicted _ _ c.evict_lru_head-gone.result _ c.some_len.ensures x.map
-    (len_unevicted c.table.inside.arrays o.side o.index _ c.evict_lru_head-gone.result e.unchanged))) c.count_after-table-inside.ensures
+    counted_after c.table.invariant (rw c.settle_on.ensures x.one_map) _ 0
+    (rw c.settle_on.ensures (len_evicted _ _ c.evict_lru_head-gone.result _ refl x.map
+    (len_unevicted c.table.inside.arrays o.side o.index _ c.evict_lru_head-gone.result e.unchanged))) c.count_removal.ensures
 
 pub invariant_of-self : goal.invariant_of-self
 invariant_of-self g c =

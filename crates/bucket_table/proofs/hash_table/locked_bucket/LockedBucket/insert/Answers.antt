@@ -19,9 +19,9 @@ invariant_of-table g c =
     c.insert-placed.result c.insert-placed.new.self (g.G.Generation.keeps c.args.generation.now) c.args.pair c.args.hash
     (rw (← c.table.view_is) at c.requires.own_hash) (rw (← c.table.view_is) at c.requires.home)
     (rw (← c.table.view_is) at c.requires.key_absent) slots same in
-    counted_after c.table.invariant (rw c.settle_on.ensures x.one_map) 0 c.ok_len.result
-    (rw c.settle_on.ensures (len_placed _ _ _ c.insert-placed.result _ c.ok_len.ensures x.map
-    (len_unplaced c.table.inside.arrays o.side o.index _ c.insert-placed.result same))) c.count_after-table-inside.ensures
+    counted_after c.table.invariant (rw c.settle_on.ensures x.one_map) 0 _
+    (rw c.settle_on.ensures (len_placed _ _ _ c.insert-placed.result _ refl x.map
+    (len_unplaced c.table.inside.arrays o.side o.index _ c.insert-placed.result same))) c.count_insertion.ensures
 
 pub invariant_of-self : goal.invariant_of-self
 invariant_of-self g c =

@@ -14,7 +14,7 @@ invariant_of-table g c =
     let x = marks_only g.met.K.Eq.laws g.H.KeyHash.hash_of g.row.TYPE o.side o.index c.table.invariant.one_map
     (rw (← c.table.view_is) at o.locked.within) c.args.at.now there.0 there.1 _ in
     counted_after c.table.invariant (rw c.mark_slot-left.ensures.arrays x.one_map) 1 0
-    (rw c.mark_slot-left.ensures.arrays (len_taken x.map)) c.count_after-table-inside.ensures
+    (rw c.mark_slot-left.ensures.arrays (len_taken x.map)) c.count_taken.ensures
 
 pub invariant_of-self : goal.invariant_of-self
 invariant_of-self g c = record {

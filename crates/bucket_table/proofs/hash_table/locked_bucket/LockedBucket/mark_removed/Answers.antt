@@ -12,7 +12,7 @@ invariant_of-table g c =
     (rw (← c.table.view_is) at c.requires.live_slot) in
     let x = marks g.met.K.Eq.laws g.H.KeyHash.hash_of g.row.TYPE o.side o.index c.table.invariant.one_map
     (rw (← c.table.view_is) at o.locked.within) c.args.at.now there.0 there.1 _ _ e.kept e.placed in
-    counted_after c.table.invariant x.one_map 1 0 (len_taken x.map) c.count_after-table-inside.ensures
+    counted_after c.table.invariant x.one_map 1 0 (len_taken x.map) c.count_taken.ensures
 
 pub returns-clause-map : goal.returns-clause-map
 returns-clause-map g c =

@@ -11,7 +11,7 @@ invariant_of-table g c =
     let e = c.take_slot-pair.ensures in
     let x = takes_only g.met.K.Eq.laws g.H.KeyHash.hash_of g.row.TYPE o.side o.index c.table.invariant.one_map
     (rw (← c.table.view_is) at o.locked.within) c.args.at.now c.take_slot-pair.result.0 e.pair in
-    counted_after c.table.invariant (rw e.arrays x.one_map) 1 0 (rw e.arrays (len_taken x.map)) c.count_after-table-inside.ensures
+    counted_after c.table.invariant (rw e.arrays x.one_map) 1 0 (rw e.arrays (len_taken x.map)) c.count_taken.ensures
 
 pub invariant_of-self : goal.invariant_of-self
 invariant_of-self g c = record {

@@ -12,7 +12,8 @@ invariant_of-self g c =
     let made = c.in_ok-fresh.ensures in
     let is : IsFresh c.args.capacity c.replace-source.new.dest =
     rw c.replace-source.ensures.after (record { array = made.array; full = made.full; others = made.others }) in
-    fresh_counted c.args.capacity c.replace-source.new.dest is g.K.PartialEq.eq g.met.K.Eq.laws (g.H.KeyHash.hash_of c.self.inside.hasher)
+    rw c.new-self-inside.ensures (fresh_counted c.args.capacity c.replace-source.new.dest is g.K.PartialEq.eq g.met.K.Eq.laws
+    (g.H.KeyHash.hash_of c.self.inside.hasher))
 
 pub pour_all-requires : goal.pour_all-requires
 pour_all-requires g c =

@@ -1,10 +1,14 @@
 use Rattle.std.proofs.Common.{[], ◌∷◌}
 use Rattle.std.proofs.lemmas.List.{map-append}
-use Rattle.collections.proofs.Collecting.{none_put, one_more_put, put_then_stays, upsert_puts}
+use Rattle.collections.proofs.Collecting.{none_put, one_more_put, put_then_stays, stays_then_put, upsert_puts}
 use Rattle.collections.proofs.hash_map.collecting.HashMapExtendTuple2RefRef.extend.Goals as goal
 
 pub loop-pair-init : goal.loop-pair-init
-loop-pair-init g c = none_put g.K.PartialEq.eq c.args.self.now c.sound.ensures
+loop-pair-init g c =
+    let eq = g.K.PartialEq.eq in
+    let stays = c.reserve_for.ensures in
+    stays_then_put eq c.args.self.now c.reserve_for.new.self c.reserve_for.new.self [] stays
+    (none_put eq c.reserve_for.new.self stays.kept.unique)
 
 pub loop-pair-preserved : goal.loop-pair-preserved
 loop-pair-preserved g c =

@@ -6,9 +6,9 @@ pub returns-clause-hashed : goal.returns-clause-hashed
 returns-clause-hashed g c =
     c.requires.hashed
     ∙ ap (λ hasher. g.H.KeyHash.hash_of hasher c.args.key.now)
-    (found_hasher c.args.hash c.args.table.now c.find_or_grow.new.self c.find_or_grow.result c.find_or_grow.ensures)
+    (found_hasher c.args.hash c.args.table.now c.find.new.self c.find.result c.find.ensures)
 
 pub returns-clause-absent : goal.returns-clause-absent
 returns-clause-absent g c =
-    found_absent g.K.PartialEq.eq g.met.K.Eq.laws c.args.key.now c.args.hash c.args.table.now c.find_or_grow.new.self c.find_or_grow.result
-    c.requires.absent c.find_or_grow.ensures
+    found_absent g.K.PartialEq.eq g.met.K.Eq.laws c.args.key.now c.args.hash c.args.table.now c.find.new.self c.find.result
+    c.requires.absent c.find.ensures

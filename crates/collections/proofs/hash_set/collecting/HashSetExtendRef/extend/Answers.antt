@@ -1,10 +1,15 @@
 use Rattle.std.proofs.Common.{[], ◌∷◌}
 use Rattle.std.proofs.lemmas.List.{map-append}
-use Rattle.collections.proofs.SetCollecting.{added_put, keys_then_stay, no_key_put, one_more_key}
+use Rattle.collections.proofs.SetCollecting.{added_put, keys_then_stay, no_key_put, one_more_key, stays_then_keys}
 use Rattle.collections.proofs.hash_set.collecting.HashSetExtendRef.extend.Goals as goal
 
 pub loop-key-init : goal.loop-key-init
-loop-key-init g c = no_key_put g.K.PartialEq.eq g.met.K.Eq.laws c.args.self.now (rw (← c.self.view_is) c.sound.ensures)
+loop-key-init g c =
+    let eq = g.K.PartialEq.eq in
+    let laws = g.met.K.Eq.laws in
+    let stays = c.reserve_for.ensures in
+    stays_then_keys eq laws c.args.self.now c.reserve_for.new.self c.reserve_for.new.self [] stays
+    (no_key_put eq laws c.reserve_for.new.self stays.kept.unique)
 
 pub loop-key-preserved : goal.loop-key-preserved
 loop-key-preserved g c =
