@@ -1,6 +1,6 @@
 -- Lists of equally long parts, and parts of which some buckets are made.
 use Rattle.bucket_slots.proofs.Words.{All, All-head, All-tail, AreParts, Bool, BucketView, IsLengthFor, List, [], add-mul, ap, append-nil}
-use Rattle.bucket_slots.proofs.Words.{append_assoc, arith, cases_lt, div-add-mod, div_below, drop, empty_bucket, false, flat_map-append}
+use Rattle.bucket_slots.proofs.Words.{append_assoc, arith, cases_lt, div-add-mod, div_below, drop, empty_bucket, false, flat_map-append, le-mul_of_pos_right}
 use Rattle.bucket_slots.proofs.Words.{flattened, get_or, inl, inr, length, length-append, length-set, length-take-le, mod-lt, mul_comm}
 use Rattle.bucket_slots.proofs.Words.{one-mul, part_at, pow_pos, refl, replicate, set, set-get_or, set_split, subst, suc, sym, take, true}
 use Rattle.bucket_slots.proofs.Words.{unmade_bucket, with_unmade, zero, ℕ, ◌%◌, ◌*◌, ◌++◌, ◌+◌, ◌-◌, ◌/◌, ◌<◌, ◌^◌, ◌∙◌, ◌∷◌, ◌≡◌, ◌≤◌}
@@ -8,6 +8,13 @@ use Rattle.std.proofs.lemmas.List.{get_or-append_right, get_or-replicate, get_or
 use Rattle.std.proofs.lemmas.List.{replicate-append-replicate, set-append_left, set-append_right}
 use Rattle.std.proofs.lemmas.List.Elements.{All-get_or, All-replicate, All-same, All-set, All-take}
 use Rattle.bucket_slots.specs.ArrayView.{IsNewArray}
+use Rattle.bucket_slots.specs.Layout.ArrayParts.{AreBuckets, AreFew, buckets_of}
+
+-- where n items fit in memory together, one does
+pub one_fits : (n s : ℕ) → 0 < n → n * s < 2 ^ 63 → s < 2 ^ 63
+one_fits n s some all =
+    let least : s ≤ n * s = subst (λ (k : ℕ). s ≤ k) (mul_comm s n) (le-mul_of_pos_right s some) in
+    omega (arith, least, all)
 
 module _ {A : Type 0} where
   -- each element from a number on is one value, where that element is and each behind it
@@ -177,6 +184,97 @@ module _ {K V : Type 0} where
     pub place_is : (part offset index : ℕ) (buckets : Buckets K V) → flattened parts ≡ buckets → index < length buckets
         → part ≡ index / 2 ^ bits → offset ≡ index % 2 ^ bits → IsPlace parts spare len bits part offset index buckets
     place_is part offset index buckets is below part_is offset_is = rw (part_is, offset_is, ← is) (place_by_index index (rw is below))
+
+  -- where there are parts, the buckets are theirs
+  pub of_parts : (parts : List (Buckets K V)) (beside : Buckets K V) → 0 < length parts → buckets_of parts beside ≡ flattened parts
+  of_parts [] beside some = absurd (omega (arith, some))
+  of_parts (part ∷ parts) beside some = refl
+
+  some_parts : (parts : List (Buckets K V)) → 0 < length (flattened parts) → 0 < length parts
+  some_parts [] some = absurd (omega (arith, some))
+  some_parts (part ∷ parts) some = omega arith
+
+  module _ {parts : List (Buckets K V)} {beside : Buckets K V} {len bits : ℕ} where
+    pub long_view : AreParts parts beside len bits → 4 < len → buckets_of parts beside ≡ flattened parts
+    long_view kept many = of_parts parts beside (some_parts parts (omega (arith, kept.len_is, many)))
+
+    pub few_view : AreFew parts beside len bits → buckets_of parts beside ≡ beside
+    few_view few = rw few.partless refl
+
+    -- the stored length is that of the array
+    pub len_of : AreBuckets parts beside len bits → len ≡ length (buckets_of parts beside)
+    len_of (inl few) = few.len_is ∙ ap length (sym (few_view few))
+    len_of (inr kept) = kept.0.len_is ∙ ap length (sym (long_view kept.0 kept.1))
+
+    pub is_long : {buckets : Buckets K V} → AreBuckets parts beside len bits → buckets_of parts beside ≡ buckets → 4 < length buckets
+        → 4 < len
+    is_long all is many = omega (arith, len_of all, ap length is, many)
+
+    -- so has one whose parts are longer than one bucket
+    pub bits_long : AreBuckets parts beside len bits → 0 < bits → 4 < len
+    bits_long (inl few) some = absurd (omega (arith, few.no_bits, some))
+    bits_long (inr kept) some = kept.1
+
+    -- there is a bucket beside the parts
+    pub some_beside : AreBuckets parts beside len bits → 0 < length beside
+    some_beside (inl few) = omega (arith, few.some, few.len_is)
+    some_beside (inr kept) = rw kept.0.spare_is (omega arith)
+
+    -- an array of more buckets than four has parts
+    pub long_parts : AreBuckets parts beside len bits → 4 < len → AreParts parts beside len bits
+    long_parts (inl few) many = absurd (omega (arith, few.few, many))
+    long_parts (inr kept) many = kept.0
+
+    -- and one of fewer has none
+    pub few_parts : AreBuckets parts beside len bits → len ≤ 4 → AreFew parts beside len bits
+    few_parts (inl few) most = few
+    few_parts (inr kept) most = absurd (omega (arith, kept.1, most))
+
+    -- another bucket in a short array
+    pub few_with : (few : AreFew parts beside len bits) (index : ℕ) (bucket : BucketView K V)
+        → AreFew parts (set beside index bucket) len bits
+    few_with few index bucket = record {
+      partless = few.partless;
+      some = few.some;
+      few = few.few;
+      len_is = few.len_is ∙ sym (length-set beside index bucket);
+      no_bits = few.no_bits;
+    }
+
+  -- a run of as many buckets in a short array
+  pub few_spread : (parts : List (Buckets K V)) (beside left : Buckets K V) (len bits : ℕ) → AreFew parts beside len bits
+      → length left ≡ length beside → AreFew parts left len bits
+  few_spread parts beside left len bits few same = record {
+    partless = few.partless;
+    some = few.some;
+    few = few.few;
+    len_is = few.len_is ∙ sym same;
+    no_bits = few.no_bits;
+  }
+
+  -- the place of the bucket with an index in an array that isn't short: a read there is one of the array, and so is a write
+  pub record IsLongPlace (parts : List (Buckets K V)) (beside : Buckets K V) (len bits part offset index : ℕ)
+      (buckets : Buckets K V) : Type 0 where
+    pub within : part < length parts
+    pub inside : offset < length (part_at parts part)
+    pub read : get_or (part_at parts part) offset empty_bucket ≡ get_or buckets index empty_bucket
+    pub written : (bucket : BucketView K V) → buckets_of (parts_with parts part offset bucket) beside ≡ set buckets index bucket
+    pub kept : (bucket : BucketView K V) → AreBuckets (parts_with parts part offset bucket) beside len bits
+
+  module _ (parts : List (Buckets K V)) (beside : Buckets K V) (len bits : ℕ) (all : AreBuckets parts beside len bits) (many : 4 < len) where
+    pub long_place : (part offset index : ℕ) (buckets : Buckets K V) → buckets_of parts beside ≡ buckets → index < length buckets
+        → part ≡ index / 2 ^ bits → offset ≡ index % 2 ^ bits → IsLongPlace parts beside len bits part offset index buckets
+    long_place part offset index buckets is below part_is offset_is =
+        let kept = long_parts all many in
+        let view = long_view kept many in
+        let place = place_is parts beside len bits kept part offset index buckets (sym view ∙ is) below part_is offset_is in
+        record {
+          within = place.within;
+          inside = place.inside;
+          read = place.read;
+          written = λ bucket. long_view (place.kept bucket) many ∙ place.written bucket;
+          kept = λ bucket. inr (place.kept bucket, many);
+        }
 
   -- as many empty buckets as a capacity asks for are a new array
   pub new_array : (capacity len : ℕ) (buckets : Buckets K V) → IsLengthFor capacity len → buckets ≡ replicate len empty_bucket

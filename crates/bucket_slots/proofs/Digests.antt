@@ -34,15 +34,18 @@ module _ {K V : Type 0} where
   pub AreDigests-set : (old new : DigestLists) (buckets : List (BucketView K V)) (index : ℕ) (bucket : BucketView K V)
       → AreDigests old buckets
       → index < length buckets → ChangesOne index old new → ((digest_at new index).live ≢ 2 ^ 32 - 1
-      → IsDigest (digest_at new index) bucket)
+      → (4 < length buckets) × IsDigest (digest_at new index) bucket)
       → AreDigests new (set buckets index bucket)
   AreDigests-set old new buckets index bucket kept below others here i said = elim (cases_eq i index) [
     | inl same ↦
         let there = get_or-set_same buckets index bucket empty_bucket below in
-        rw (same, there) (here (λ lost. said (ap (λ k. (digest_at new k).live) same ∙ lost)))
+        let is = here (λ lost. said (ap (λ k. (digest_at new k).live) same ∙ lost)) in
+        (rw (length-set buckets index bucket) is.0, rw (same, there) is.1)
     | inr other ↦
-        rw (others i other, get_or-set_other buckets index i bucket empty_bucket other)
-        (kept i (λ lost. said (ap (λ d. d.live) (others i other) ∙ lost)))
+        let is = kept i (λ lost. said (ap (λ d. d.live) (others i other) ∙ lost)) in (
+          rw (length-set buckets index bucket) is.0,
+          rw (others i other, get_or-set_other buckets index i bucket empty_bucket other) is.1,
+        )
   ]
 
   -- one digest is lost, and its bucket changes
@@ -140,7 +143,8 @@ module _ {K V : Type 0} where
       (kept : IsArray (length buckets) offset size × AreDigests old buckets) (below : index < length buckets)
       (others : ChangesOne index old new) where
     -- one digest and its bucket change in an array
-    pub set_at : (bucket : BucketView K V) → ((digest_at new index).live ≢ 2 ^ 32 - 1 → IsDigest (digest_at new index) bucket)
+    pub set_at : (bucket : BucketView K V)
+        → ((digest_at new index).live ≢ 2 ^ 32 - 1 → (4 < length buckets) × IsDigest (digest_at new index) bucket)
         → IsArray (length (set buckets index bucket)) offset size × AreDigests new (set buckets index bucket)
     set_at bucket here = (
       subst (λ (n : ℕ). IsArray n offset size) (sym (length-set buckets index bucket)) kept.0,
@@ -158,7 +162,7 @@ module _ {K V : Type 0} where
       → IsArray (length (set buckets index bucket)) offset size × AreDigests digests (set buckets index bucket)
   kept_at digests buckets index offset size kept below bucket stays =
       set_at digests digests buckets index offset size kept below (λ i other. refl) bucket
-      (λ said. stays (digest_at digests index) (kept.1 index said))
+      (λ said. let is = kept.1 index said in (is.0, stays (digest_at digests index) is.1))
 
   valued : (slot : Slot K V) (value : V)
       → (is_live (slot_with_value slot value) ≡ is_live slot) × (byte_of (slot_with_value slot value) ≡ byte_of slot)
@@ -207,21 +211,23 @@ module _ {K V : Type 0} where
 
   -- nothing is said from an index on, and the buckets before it stay
   pub AreDigests-front : (digests : DigestLists) (old new : List (BucketView K V)) (start : ℕ) → AreDigests digests old
-      → KnowsNone start digests
+      → KnowsNone start digests → length new ≡ length old
       → ((i : ℕ) → i < start → bucket_at new i ≡ bucket_at old i) → AreDigests digests new
-  AreDigests-front digests old new start kept none same i said = elim (cases_lt i start) [
-    | inl before ↦ rw (same i before) (kept i said)
+  AreDigests-front digests old new start kept none long same i said = elim (cases_lt i start) [
+    | inl before ↦ let is = kept i said in (rw long is.0, rw (same i before) is.1)
     | inr past ↦ absurd (said (none i past))
   ]
 
   -- one digest is written anew
   pub AreDigests-settled : (old new : DigestLists) (buckets : List (BucketView K V)) (index : ℕ) (bucket : BucketView K V) (bits : ℕ)
-      (bytes : List ℕ) → AreDigests old buckets → ChangesOne index old new → Settles bits bytes (digest_at new index)
+      (bytes : List ℕ) → 4 < length buckets → AreDigests old buckets → ChangesOne index old new → Settles bits bytes (digest_at new index)
       → (bits ≢ 2 ^ 32 - 1 → IsDigest (record { live = bits; bytes = bytes }) bucket) → bucket ≡ bucket_at buckets index
       → AreDigests new buckets
-  AreDigests-settled old new buckets index bucket bits bytes kept others settled is read i said = elim (cases_eq i index) [
-    | inl same ↦ rw (same, ← read) (at_index settled (λ lost. said (ap (λ k. (digest_at new k).live) same ∙ lost)))
-    | inr other ↦ rw (others i other) (kept i (λ lost. said (ap (λ d. d.live) (others i other) ∙ lost)))
+  AreDigests-settled old new buckets index bucket bits bytes many kept others settled is read i said = elim (cases_eq i index) [
+    | inl same ↦ (many, rw (same, ← read) (at_index settled (λ lost. said (ap (λ k. (digest_at new k).live) same ∙ lost))))
+    | inr other ↦
+        let was = kept i (λ lost. said (ap (λ d. d.live) (others i other) ∙ lost)) in
+        (was.0, rw (others i other) was.1)
   ]
     where
       at_index : Settles bits bytes (digest_at new index) → (digest_at new index).live ≢ 2 ^ 32 - 1 → IsDigest (digest_at new index) bucket
@@ -320,4 +326,11 @@ pub null_at : (valid : Bool) (pos : ℕ) → ((pos ≡ BUCKET_LEN → ⊥) → I
 null_at valid pos points is = elim (cases_eq pos BUCKET_LEN) [
   | inl null ↦ null
   | inr other ↦ let yes : valid ≡ true = points other in absurd cc
+]
+
+-- an array that isn't short
+pub many_by : {short : Bool} (len : ℕ) → (len ≤ 4 → IsTrue short) → short ≡ false → 4 < len
+many_by len few is = elim (cases_lt 4 len) [
+  | inl more ↦ more
+  | inr upto ↦ let yes = few (omega (arith, upto)) in absurd cc
 ]

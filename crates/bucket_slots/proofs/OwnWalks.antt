@@ -9,7 +9,7 @@ use Rattle.std.proofs.Math.Seq.{drop-nil}
 use Rattle.std.proofs.lemmas.Nat.Bits.{bit_at_above}
 use Rattle.bucket_slots.specs.ArrayView.{bucket_at}
 use Rattle.bucket_slots.specs.Layout.Bitmaps.{KeepsAfter}
-use Rattle.bucket_slots.specs.Layout.Digests.{AreDigests, DigestLists, digest_at}
+use Rattle.bucket_slots.specs.Layout.Digests.{AreDigests, DigestLists, IsDigest, digest_at}
 use Rattle.bucket_slots.specs.OwnWalks.{AreAllAfter, AreAllOwn, AreOwnAfter, NamesFrom}
 use Rattle.bucket_slots.specs.Walking.{position_after}
 use Rattle.bucket_slots.proofs.LiveMasks.{named_live, names_all, names_next, next_pair, no_pair}
@@ -85,8 +85,13 @@ module _ {K V : Type 0} where
   pub all_own : (digests : DigestLists) (buckets : List (BucketView K V)) (index live : ℕ) → AreDigests digests buckets
       → live ≡ (digest_at digests index).live → live ≢ 2 ^ 32 - 1 → AreAllOwn (bucket_at buckets index) live
   all_own digests buckets index live are is known =
-      let said = are index (λ lost. known (is ∙ lost)) in
+      let said = (are index (λ lost. known (is ∙ lost))).1 in
       record { mask = rw is said.mask; chainless = said.chainless }
+
+  -- what a digest of a bucket says
+  pub own_digest : (bucket : BucketView K V) (live : ℕ) (bytes : List ℕ) → IsDigest (record { live = live; bytes = bytes }) bucket
+      → AreAllOwn bucket live
+  own_digest bucket live bytes is = record { mask = is.mask; chainless = is.chainless }
 
   -- where no own slot is live and there is no chain, there is no pair
   pub no_pairs : (bucket : BucketView K V) (live : ℕ) → AreAllOwn bucket live → live ≡ 0 → pairs_in bucket ≡ []

@@ -1,5 +1,5 @@
 -- Pairs that spread from a bucket's own slots over some buckets.
-use Rattle.bucket_slots.proofs.Words.{[], cases_eq, get_or-set_other, get_or-set_same, inl, inr}
+use Rattle.bucket_slots.proofs.Words.{[], cases_eq, false, get_or-set_other, get_or-set_same, inl, inr}
 use Rattle.bucket_slots.proofs.Words.{AreParts, Bool, Bor, BucketView, List, Some, ap, append-nil, append_assoc, arith}
 use Rattle.bucket_slots.proofs.Words.{div-add-mod, drop, drop-drop, drop_all, empty_bucket, first_place, flattened, is_free, length}
 use Rattle.bucket_slots.proofs.Words.{length-append, length-drop, length-set, length-take-le, live, mod-lt, mul_comm}
@@ -12,7 +12,8 @@ use Rattle.bucket_slots.specs.ArrayView.{bucket_at}
 use Rattle.bucket_slots.specs.Homes.{IsHome}
 use Rattle.bucket_slots.specs.Layout.ArrayFields.{IsArray}
 use Rattle.bucket_slots.specs.Spreading.{IsShifted, Spreads, SpreadsOne, SpreadsSome}
-use Rattle.bucket_slots.proofs.ArrayParts.{back, flattened-set, flattened_split, front, length-front, length_row, place_is}
+use Rattle.bucket_slots.proofs.ArrayParts.{back, flattened-set, flattened_split, front, length-front, length_row, long_parts, long_view, place_is}
+use Rattle.bucket_slots.specs.Layout.ArrayParts.{AreBuckets, buckets_of}
 use Rattle.bucket_slots.proofs.Intervals.{home_by_offset}
 
 module _ {K V : Type 0} where
@@ -155,6 +156,37 @@ module _ {K V : Type 0} where
             ∙ ap (λ k. take i made ++ (ws ++ (drop k made ++ rest))) ends;
       }
 
+  -- a list of buckets of which some are others now, and what stands before them and behind them
+  pub record IsListOver (made : List (BucketView K V)) (i : ℕ) (run ws after : List (BucketView K V)) : Type 0 where
+    pub front : List (BucketView K V)
+    pub back : List (BucketView K V)
+    pub front_len : length front ≡ i
+    pub was : made ≡ front ++ (run ++ back)
+    pub is : after ≡ front ++ (ws ++ back)
+    pub long : length after ≡ length made
+
+  pub list_over : (made : List (BucketView K V)) (count i n : ℕ) (run ws : List (BucketView K V))
+      → count ≡ length made → i + n ≤ length made → run ≡ take (i + n - i) (drop i made) → length ws ≡ length run
+      → IsListOver made i run ws (take count ((take i made ++ (ws ++ drop (length ws) (drop i made)))
+      ++ drop (length (take i made ++ (ws ++ drop (length ws) (drop i made)))) made))
+  list_over made count i n run ws counted fits run_is same =
+      let over = part_over made 0 count false i n run ws counted fits run_is same in
+      let was = sym (unmade_none made) ∙ over.was in
+      let is = sym (unmade_none _) ∙ over.is in
+      record {
+        front = over.front;
+        back = over.back;
+        front_len = over.front_len;
+        was = was;
+        is = is;
+        long = ap length is ∙ simp length-append (omega (arith, same)) ∙ sym (ap length was);
+      }
+    where
+      unmade_none : (buckets : List (BucketView K V)) → with_unmade buckets 0 false ≡ buckets
+      unmade_none buckets =
+          let none : 0 - length buckets ≡ 0 = omega arith in
+          ap (λ n. buckets ++ replicate n (unmade_bucket false)) none ∙ append-nil buckets
+
   -- the parts of an array around the place of a bucket
   pub record IsAround (parts : List (List (BucketView K V))) (spare : List (BucketView K V)) (len bits part offset start : ℕ) : Type 0 where
     pub first : start ≡ part * 2 ^ bits + offset
@@ -210,6 +242,19 @@ module _ {K V : Type 0} where
         (count, subst (λ ds. Spreads kind answers names 0 count s (flattened parts) t ds) (sym (there.is left)) before),
       )
 
+  pub spread_in_buckets : (kind : ℕ) (answers : Bor K → ℕ → Type 0) (names : ℕ → ℕ → Type 0) (parts : List (List (BucketView K V)))
+      (beside : List (BucketView K V)) (len bits : ℕ) → AreBuckets parts beside len bits → 4 < len → (part offset start : ℕ)
+      → start < length (buckets_of parts beside) → part ≡ start / 2 ^ bits → offset ≡ start % 2 ^ bits → (s t : BucketView K V)
+      (left : List (BucketView K V)) → ((first : ℕ) → start ≡ first + offset
+      → SpreadsSome kind answers names first s (part_at parts part) t left)
+      → AreBuckets (set parts part left) beside len bits
+      × SpreadsSome kind answers names 0 s (buckets_of parts beside) t (buckets_of (set parts part left) beside)
+  spread_in_buckets kind answers names parts beside len bits all many part offset start below part_is offset_is s t left spreads =
+      let kept = long_parts all many in
+      let inside : start < length (flattened parts) = rw (← long_view kept many) below in
+      let after = spread_in_parts kind answers names parts beside len bits kept part offset start inside part_is offset_is s t left spreads in
+      (inr (after.0, many), rw (long_view kept many, long_view after.0 many) after.1)
+
   -- the buckets that a shift by an array's offset names are homes
   pub spread_homes : (kind : ℕ) (answers : Bor K → ℕ → Type 0) (now after : List (BucketView K V)) (shift size : ℕ)
       → IsArray (length now) shift size → (s t : BucketView K V) → SpreadsSome kind answers (IsShifted shift) 0 s now t after
@@ -249,3 +294,15 @@ module _ {K V : Type 0} where
         | inr other ↦ rw (get_or-set_other parts part (i / m) left [] other) refl
       ] in
       sym q.read ∙ ap (λ (ps : List (List (BucketView K V))). bucket_at (part_at ps (i / m)) (i % m)) is ∙ inner ∙ p.read
+
+  pub same_buckets_before : (parts : List (List (BucketView K V))) (beside : List (BucketView K V)) (len bits part offset start : ℕ)
+      (left : List (BucketView K V)) → AreBuckets parts beside len bits → AreBuckets (set parts part left) beside len bits → 4 < len
+      → start < length (buckets_of parts beside) → part ≡ start / 2 ^ bits → offset ≡ start % 2 ^ bits
+      → ((k : ℕ) → k < offset → bucket_at left k ≡ bucket_at (part_at parts part) k) → (i : ℕ) → i < start
+      → bucket_at (buckets_of (set parts part left) beside) i ≡ bucket_at (buckets_of parts beside) i
+  same_buckets_before parts beside len bits part offset start left all after many below part_is offset_is same i before =
+      let kept = long_parts all many in
+      let left_kept = long_parts after many in
+      let inside : start < length (flattened parts) = rw (← long_view kept many) below in
+      rw (long_view kept many, long_view left_kept many)
+      (same_before parts (set parts part left) beside len bits part offset start left kept left_kept inside part_is offset_is refl same i before)

@@ -1,5 +1,5 @@
 -- Digests of buckets, and what they say. No public clause cites this module.
-use Rattle.std.specs.Prelude.{ℕ, ◌-◌, ◌^◌, ◌≤◌, ◌≡◌, ◌≢◌, ◌⊎◌, true, List, [], Some, length, slice_index_or}
+use Rattle.std.specs.Prelude.{ℕ, ◌-◌, ◌^◌, ◌<◌, ◌≤◌, ◌≡◌, ◌≢◌, ◌⊎◌, true, List, [], Some, length, slice_index_or}
 use Rattle.bucket_slots.specs.ArrayView.{bucket_at}
 use Rattle.bucket_slots.specs.BucketView.{BucketView}
 use Rattle.bucket_slots.specs.Masks.{IsMaskOf}
@@ -44,7 +44,8 @@ pub record IsDigest {K V : Type 0} (digest : Digest) (bucket : BucketView K V) :
   pub own_long : length bucket.own ≡ 32
   pub chainless : bucket.chain ≡ []
 
--- each digest that says something is its bucket's
+-- each digest that says something is its bucket's, and the array has more than four buckets
 abbrev pub AreDigests : {K V : Type 0} → DigestLists → List (BucketView K V) → Type 0
 AreDigests digests buckets =
-    (index : ℕ) → (digest_at digests index).live ≢ 2 ^ 32 - 1 → IsDigest (digest_at digests index) (bucket_at buckets index)
+    (index : ℕ) → (digest_at digests index).live ≢ 2 ^ 32 - 1
+    → (4 < length buckets) × IsDigest (digest_at digests index) (bucket_at buckets index)

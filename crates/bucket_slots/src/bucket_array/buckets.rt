@@ -1,13 +1,15 @@
 //! The buckets of an array: in parts of equal length, each bucket made when it is first lent for
-//! writing.
+//! writing. A short array, of at most four buckets, has no parts: one vector holds its buckets, all
+//! made at once.
 //!
-//! Model: the list of the buckets. Invariant (`AreParts`): each part has as many buckets as the
-//! stored bits say, the length is stored, and a spare empty bucket and a spare killed one stand
-//! beside the parts, as which the buckets that aren't made are read.
+//! Model: the list of the buckets. Invariant (`AreBuckets`): the length is stored. Each part has as
+//! many buckets as the stored bits say, and beside the parts stand an empty bucket and a killed one,
+//! as which the buckets that aren't made are read. In a short array the buckets stand there instead.
 //!
 //! Own.
 ghost use Rattle.std.specs.Prelude.{◌≡◌, ◌≢◌, ℕ, ◌+◌, ◌-◌, ◌<◌, ◌≤◌, ◌^◌, ◌%◌, [], Some, true};
-ghost use Rattle.std.specs.Prelude.{IfOk, IfSome, IsTrue, length, option_map, replicate, slice_set};
+ghost use Rattle.std.specs.Prelude.{◌↔◌, IfOk, IfSome, IsTrue, length, option_map, replicate};
+ghost use Rattle.std.specs.Prelude.{slice_set};
 ghost use Rattle.std.specs.Borrow.{sem};
 ghost use Rattle.std.specs.List.{position};
 ghost use Rattle.bucket_slots.specs.ArrayRoom.{BucketFits};
@@ -21,7 +23,7 @@ ghost use Rattle.bucket_slots.specs.Sizing.{IsLength};
 ghost use Rattle.bucket_slots.specs.Slots.{is_free, is_live, live_pair, slot_at};
 ghost use Rattle.bucket_slots.specs.Spreading.{IsShifted, SpreadsSome};
 
-use super::part::{Part, first_fresh, spare_buckets};
+use super::part::{Part, empty_buckets, first_fresh, spare_buckets};
 use super::sizing::{LEAST_PART_BITS, parts_for, place_of};
 use crate::bucket::room::fits_in_memory;
 use crate::bucket::{Bucket, EntryPtr, INDEX, KeyProbe};
@@ -29,10 +31,13 @@ use crate::lru::LruList;
 use std::alloc::{AllocError, Global};
 use std::marker::Model;
 
+/// The greatest number of buckets of a short array.
+const SHORT_LEN: usize = 4;
+
 /// The buckets of an array.
 pub(crate) struct Buckets<K, V, L: LruList, const TYPE: u8> {
     parts: Vec<Part<K, V, L, TYPE>>,
-    spare: Vec<Bucket<K, V, L, TYPE>>,
+    beside: Vec<Bucket<K, V, L, TYPE>>,
     len: usize,
     part_bits: u32,
     part_mask: usize,
@@ -40,36 +45,36 @@ pub(crate) struct Buckets<K, V, L: LruList, const TYPE: u8> {
 
 impl<K, V, L: LruList, const TYPE: u8> Model for Buckets<K, V, L, TYPE> {
     ghost use Rattle.std.specs.Prelude.{List, ◌≡◌, ◌^◌, ◌-◌};
-    ghost use Rattle.bucket_slots.specs.BucketView.{BucketView, flattened};
-    ghost use Rattle.bucket_slots.specs.Layout.ArrayParts.{AreParts};
+    ghost use Rattle.bucket_slots.specs.BucketView.{BucketView};
+    ghost use Rattle.bucket_slots.specs.Layout.ArrayParts.{AreBuckets, buckets_of};
 
     ghost Value = { List (BucketView K V) };
 
-    ghost view = { λ buckets. flattened buckets.parts.items };
+    ghost view = { λ buckets. buckets_of buckets.parts.items buckets.beside.items };
 
     ghost invariant = { λ buckets.
-        AreParts buckets.parts.items buckets.spare.items buckets.len buckets.part_bits
+        AreBuckets buckets.parts.items buckets.beside.items buckets.len buckets.part_bits
         × (buckets.part_mask ≡ 2 ^ buckets.part_bits - 1) };
 }
 
-/// The slice of the spare buckets states that a bucket fits in memory.
+/// The slice of the buckets beside the parts states that a bucket fits in memory.
 impl<K: Drop, V: Drop, L: LruList + Drop, const TYPE: u8> Drop for Buckets<K, V, L, TYPE> {
     fn drop(self) {
         let Buckets {
             parts,
-            spare,
+            beside,
             len: _,
             part_bits: _,
             part_mask: _,
         } = self;
         drop(parts);
-        let _ = spare.as_slice();
-        drop(spare);
+        let _ = beside.as_slice();
+        drop(beside);
     }
 }
 
 impl<K: Drop, V: Drop, L: LruList + Drop, const TYPE: u8> Buckets<K, V, L, TYPE> {
-    /// Returns `len` empty buckets. None of them is made.
+    /// Returns `len` empty buckets, none of them made but in a short array.
     ///
     /// # Errors
     ///
@@ -82,13 +87,23 @@ impl<K: Drop, V: Drop, L: LruList + Drop, const TYPE: u8> Buckets<K, V, L, TYPE>
         if !fits_in_memory::<Bucket<K, V, L, TYPE>>() {
             return Err(AllocError);
         }
+        if len <= SHORT_LEN {
+            let beside = empty_buckets(alloc, len)?;
+            return Ok(Buckets {
+                parts: Vec::new(alloc),
+                beside,
+                len,
+                part_bits: 0,
+                part_mask: 0,
+            });
+        }
         let (count, part_bits) = parts_for(len);
         let part_len: usize = 1 << part_bits;
         let parts = Part::alloc_all(alloc, count, part_len)?;
-        let spare = spare_buckets(alloc)?;
+        let beside = spare_buckets(alloc)?;
         Ok(Buckets {
             parts,
-            spare,
+            beside,
             len,
             part_bits,
             part_mask: part_len - 1,
@@ -107,13 +122,21 @@ impl<K, V, L: LruList, const TYPE: u8> Buckets<K, V, L, TYPE> {
         self.len
     }
 
+    /// Tests whether the array is short, with at most four buckets.
+    #[inline(always)]
+    pub(crate) fn is_short(&self) -> bool
+        ensures { IsTrue result ↔ (length self.now ≤ 4) }
+    {
+        self.len <= SHORT_LEN
+    }
+
     /// States that a bucket takes fewer than 2^63 bytes; does nothing at run time.
     #[inline(always)]
     pub(crate) fn room(&self)
         ensures { BucketFits K.row V.row L.row TYPE.row
             (record { KEEPS = L.KEEPS; listed = L.listed; IsTail = L.IsTail }) L.Default }
     {
-        let _ = self.spare.as_slice();
+        let _ = self.beside.as_slice();
     }
 
     /// Returns the bucket with an index.
@@ -123,8 +146,11 @@ impl<K, V, L: LruList, const TYPE: u8> Buckets<K, V, L, TYPE> {
         ensures { result.now ≡ bucket_at self.now index }
     {
         self.room();
+        if self.len <= SHORT_LEN {
+            return &self.beside[index];
+        }
         let (part, offset) = place_of(index, self.part_bits, self.part_mask);
-        self.parts[part].bucket(offset, &self.spare)
+        self.parts[part].bucket(offset, &self.beside)
     }
 
     /// Lends the bucket with an index for writing. If it isn't made yet, it is made first, with
@@ -138,15 +164,33 @@ impl<K, V, L: LruList, const TYPE: u8> Buckets<K, V, L, TYPE> {
             self.entry index result) }
         ensures bucket { result.now ≡ bucket_at self.old index }
     {
+        if self.is_short() {
+            return &mut self.beside[index];
+        }
+        self.get_long_mut(index)
+    }
+
+    /// Does what `get_mut` does, in an array that isn't short.
+    #[inline(always)]
+    fn get_long_mut(&mut self, index: usize) -> &mut Bucket<K, V, L, TYPE>
+        requires long { 4 < length self.old }
+        requires within { index < length self.old }
+        ensures* writes_back { sem 𝓛
+            (LendsBucketAt K.row V.row L.row TYPE.row
+            (record { KEEPS = L.KEEPS; listed = L.listed; IsTail = L.IsTail }) L.Default
+            self.entry index result) }
+        ensures bucket { result.now ≡ bucket_at self.old index }
+    {
         self.room();
         let (part, offset) = place_of(index, self.part_bits, self.part_mask);
         let held = &mut self.parts[part];
         held.bucket_mut(offset)
     }
 
-    /// Returns a bucket with a live own slot, which is always made.
+    /// Returns a bucket with a live own slot, which is always made, of an array that isn't short.
     #[inline(always)]
     pub(crate) fn made(&self, index: usize) -> &Bucket<K, V, L, TYPE>
+        requires long { 4 < length self.now }
         requires within { index < length self.now }
         requires live_slot { (pos : ℕ)
             × (is_live (slot_at (bucket_at self.now index).own pos) ≡ true) }
@@ -157,9 +201,11 @@ impl<K, V, L: LruList, const TYPE: u8> Buckets<K, V, L, TYPE> {
         self.parts[part].made_bucket(offset)
     }
 
-    /// Lends a bucket with a live own slot for writing. It is always made.
+    /// Lends a bucket with a live own slot for writing, which is always made, of an array that isn't
+    /// short.
     #[inline(always)]
     pub(crate) fn made_mut(&mut self, index: usize) -> &mut Bucket<K, V, L, TYPE>
+        requires long { 4 < length self.old }
         requires within { index < length self.old }
         requires live_slot { (pos : ℕ)
             × (is_live (slot_at (bucket_at self.old index).own pos) ≡ true) }
@@ -176,7 +222,8 @@ impl<K, V, L: LruList, const TYPE: u8> Buckets<K, V, L, TYPE> {
     }
 
     /// Returns the place and the pair of the first wanted slot of a bucket with no chain, given the
-    /// live own slots with the hash's fingerprint. If there is none, no bucket is read.
+    /// live own slots with the hash's fingerprint, in an array that isn't short. If there is none,
+    /// no bucket is read.
     #[inline(always)]
     pub(crate) fn find_among<P: KeyProbe<K>>(
         &self,
@@ -185,6 +232,7 @@ impl<K, V, L: LruList, const TYPE: u8> Buckets<K, V, L, TYPE> {
         hash: u64,
         probe: &mut P,
     ) -> Option<(EntryPtr<K, V, TYPE>, &K, &V)>
+        requires long { 4 < length self.now }
         requires within { index < length self.now }
         requires mask { IsMaskOf (has_byte (hash % 256)) (bucket_at self.now index).own candidates }
         requires chainless { (bucket_at self.now index).chain ≡ [] }
@@ -210,10 +258,11 @@ impl<K, V, L: LruList, const TYPE: u8> Buckets<K, V, L, TYPE> {
 }
 
 impl<K: Drop, V: Drop, L: LruList, const TYPE: u8> Buckets<K, V, L, TYPE> {
-    /// Takes the pair out of a live own slot of a bucket.
+    /// Takes the pair out of a live own slot of a bucket, in an array that isn't short.
     #[inline(always)]
     pub(crate) fn remove(&mut self, index: usize, at: EntryPtr<K, V, TYPE>) -> (K, V)
         requires not_index { TYPE ≢ INDEX }
+        requires long { 4 < length self.old }
         requires within { index < length self.old }
         requires own { at.block ≡ 0 }
         requires live_slot { IsTrue (is_live (slot_in (bucket_at self.old index) at)) }
@@ -226,11 +275,12 @@ impl<K: Drop, V: Drop, L: LruList, const TYPE: u8> Buckets<K, V, L, TYPE> {
         self.made_mut(index).remove(&mut at)
     }
 
-    /// Puts a live pair into the lowest free own slot of a bucket, given the live ones, and returns
-    /// its position.
+    /// Puts a live pair into the lowest free own slot of a bucket, given the live ones, in an array
+    /// that isn't short, and returns its position.
     #[inline(always)]
     pub(crate) fn fill(&mut self, index: usize, lives: u32, byte: u8, pair: (K, V)) -> u32
         requires not_index { TYPE ≢ INDEX }
+        requires long { 4 < length self.old }
         requires within { index < length self.old }
         requires mask { IsMaskOf is_live (bucket_at self.old index).own lives }
         requires some { lives ≢ 2 ^ 32 - 1 }
@@ -240,7 +290,7 @@ impl<K: Drop, V: Drop, L: LruList, const TYPE: u8> Buckets<K, V, L, TYPE> {
             ≡ slice_set self.old index (slots_with (bucket_at self.old index) pair byte) }
     {
         self.room();
-        self.get_mut(index).fill_own(lives, byte, pair)
+        self.get_long_mut(index).fill_own(lives, byte, pair)
     }
 
     /// Moves pairs of own slots of a bucket to `len` buckets from `start` on, as
@@ -265,9 +315,45 @@ impl<K: Drop, V: Drop, L: LruList, const TYPE: u8> Buckets<K, V, L, TYPE> {
         ensures front { (i : ℕ) → i < start → bucket_at self.new i ≡ bucket_at self.old i }
     {
         self.room();
+        if self.len <= SHORT_LEN {
+            self.spread_beside(source, start, len, shift, hash_of);
+            return;
+        }
         let (part, offset) = place_of(start, self.part_bits, self.part_mask);
         let held = &mut self.parts[part];
         held.spread(source, offset, len, start, shift, hash_of);
+    }
+}
+
+impl<K: Drop, V: Drop, L: LruList, const TYPE: u8> Buckets<K, V, L, TYPE> {
+    /// Does what `spread` does, in a short array.
+    fn spread_beside<F: Fn(&K) -> u64>(
+        &mut self,
+        source: &mut Bucket<K, V, L, TYPE>,
+        start: usize,
+        len: usize,
+        shift: u32,
+        hash_of: &F,
+    )
+        requires short { length self.old ≤ 4 }
+        requires callable { F.IsAlwaysCallable hash_of.now }
+        requires within { start < length self.old }
+        requires shift { shift < 64 }
+        requires bounded { start + len ≤ 2 ^ 64 }
+        ensures spreads { SpreadsSome TYPE (λ key answer. F.post hash_of.now key answer)
+            (IsShifted shift) 0 source.old self.old source.new self.new }
+        ensures front { (i : ℕ) → i < start → bucket_at self.new i ≡ bucket_at self.old i }
+    {
+        if self.beside.len() - start < len {
+            return;
+        }
+        self.room();
+        source.spread_own(
+            self.beside.slice_mut(start..start + len),
+            start,
+            shift,
+            hash_of,
+        );
     }
 }
 
@@ -295,6 +381,9 @@ impl<K: Drop, V: Drop, L: LruList + Drop, const TYPE: u8> Buckets<K, V, L, TYPE>
         ensures kept { self.new ≡ self.old }
         ensures other { to.new ≡ to.old }
     {
+        if self.len <= SHORT_LEN {
+            return false;
+        }
         if self.part_bits != to.part_bits {
             return false;
         }

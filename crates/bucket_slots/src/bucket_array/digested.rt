@@ -56,6 +56,22 @@ impl<K, V, L: LruList, const TYPE: u8> BucketArray<K, V, L, TYPE> {
         self.digests.live(index).count_ones() < len
     }
 
+    /// Tests whether the array has at most four buckets, which have no digests, and a bucket has
+    /// fewer than `len` live slots.
+    ///
+    /// O(1).
+    #[inline(always)]
+    pub fn has_fewer_short(&self, index: usize, len: usize) -> bool
+        requires { index < length self.now }
+        ensures { IsTrue result → length (pairs_in (bucket_at self.now index)) < len }
+    {
+        if !self.buckets.is_short() {
+            return false;
+        }
+        self.room();
+        self.buckets.get(index).len() < len
+    }
+
     /// Returns the place of the slot whose pair `peek_by` returns, at the same cost.
     #[inline(always)]
     pub fn find_by<P: KeyProbe<K>>(
@@ -131,18 +147,22 @@ impl<K, V, L: LruList, const TYPE: u8> BucketArray<K, V, L, TYPE> {
             return self.entry_mut(index, at);
         }
         self.room();
-        let bucket = self.buckets.made_mut(index);
+        let bucket = self.buckets.get_mut(index);
         bucket.update_lru_tail(at);
         bucket.entry_mut(at)
     }
 
-    /// Writes a bucket's digest from what the bucket holds. No bucket changes.
+    /// Writes a bucket's digest from what the bucket holds. No bucket changes. An array of at most
+    /// four buckets has no digests.
     ///
     /// Takes no memory. O(own slots).
     pub fn settle(&mut self, index: usize)
         requires { index < length self.old }
         ensures { self.new ≡ self.old }
     {
+        if self.buckets.is_short() {
+            return;
+        }
         self.room();
         let (live, bytes) = self.buckets.get(index).digest();
         self.digests.settle(index, live, bytes);
@@ -168,7 +188,7 @@ impl<K, V, L: LruList, const TYPE: u8> BucketArray<K, V, L, TYPE> {
         ensures other { from.new ≡ from.old }
     {
         let mut digests = mem::replace(&mut from.digests, Digests::none(alloc));
-        digests.restart(alloc, self.buckets.len());
+        digests.restart(alloc, self.digests_len());
         self.digests = digests;
     }
 
@@ -188,6 +208,17 @@ impl<K, V, L: LruList, const TYPE: u8> BucketArray<K, V, L, TYPE> {
     fn restart_digests(&mut self, alloc: Global)
         ensures { self.new ≡ self.old }
     {
-        self.digests.restart(alloc, self.buckets.len());
+        let len = self.digests_len();
+        self.digests.restart(alloc, len);
+    }
+
+    /// Returns how many digests the array has room for: one for each bucket, and none if it has at
+    /// most four buckets.
+    fn digests_len(&self) -> usize {
+        if self.buckets.is_short() {
+            0
+        } else {
+            self.buckets.len()
+        }
     }
 }

@@ -5,7 +5,7 @@
 //!
 //! Own.
 ghost use Rattle.std.specs.Prelude.{◌≡◌, ◌≢◌, ◌==◌, ℕ, ◌-◌, ◌^◌, ◌<◌, ◌%◌};
-ghost use Rattle.std.specs.Prelude.{IfSome, IsTrue, ◌↔◌, [], bit_and, slice_set};
+ghost use Rattle.std.specs.Prelude.{IfSome, IsTrue, ◌↔◌, [], bit_and, length, slice_set};
 ghost use Rattle.std.specs.Int.Count.{ones};
 ghost use Rattle.bucket_slots.specs.Layout.Bitmaps.{SetsBit};
 ghost use Rattle.bucket_slots.specs.ArrayView.{bucket_at};
@@ -107,6 +107,7 @@ impl Digests {
         ensures mask { IfSome result
             (λ known. IsMaskOf (has_byte (hash % 256)) (bucket_at buckets.now index).own known.1) }
         ensures chainless { IfSome result (λ _known. (bucket_at buckets.now index).chain ≡ []) }
+        ensures long { IfSome result (λ _known. 4 < length buckets.now) }
     {
         let live = self.live(index);
         if is_lost(live) {

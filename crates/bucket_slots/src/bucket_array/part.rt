@@ -265,6 +265,29 @@ pub(crate) fn spare_buckets<K, V, L: LruList, const TYPE: u8>(
     Ok(spare)
 }
 
+/// Returns `len` empty buckets.
+///
+/// # Errors
+///
+/// Allocation failed.
+pub(crate) fn empty_buckets<K, V, L: LruList + Drop, const TYPE: u8>(
+    alloc: Global,
+    len: usize,
+) -> Result<Vec<Bucket<K, V, L, TYPE>>, AllocError>
+where
+    K: Drop,
+    V: Drop,
+    ensures { IfOk result (λ buckets. buckets.items ≡ replicate len empty_bucket) }
+{
+    let Ok(mut buckets) = Vec::with_capacity(alloc, len) else {
+        return Err(AllocError);
+    };
+    for _i in 0..len {
+        buckets.push_reserved(Bucket::new(alloc));
+    }
+    Ok(buckets)
+}
+
 /// Returns whether each bucket is killed and empty. The last ones are looked at first, since they
 /// are killed last.
 fn are_spent<K, V, L: LruList, const TYPE: u8>(made: &Vec<Bucket<K, V, L, TYPE>>) -> bool

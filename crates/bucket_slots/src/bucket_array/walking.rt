@@ -15,16 +15,21 @@ use crate::lru::LruList;
 
 impl<K, V, L: LruList, const TYPE: u8> BucketArray<K, V, L, TYPE> {
     /// Returns the live own slots of a bucket as a bitmap, if its digest isn't lost. It has no
-    /// chain then.
+    /// chain then. In an array of at most four buckets, which has no digests, the bucket is read.
     #[inline(always)]
     fn known_own(&self, index: usize) -> Option<u32>
         ensures { IfSome result (λ live. AreAllOwn (bucket_at self.now index) live) }
     {
         let live = self.digests.live(index);
-        if is_lost(live) {
+        if !is_lost(live) {
+            return Some(live);
+        }
+        if !self.buckets.is_short() || self.buckets.len() <= index {
             return None;
         }
-        Some(live)
+        self.room();
+        let (live, _bytes) = self.buckets.get(index).digest();
+        if is_lost(live) { None } else { Some(live) }
     }
 
     /// Returns the live slots of a bucket after a pointer as a bitmap of own slots, if its digest

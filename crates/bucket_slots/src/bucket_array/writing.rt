@@ -8,6 +8,7 @@ ghost use Rattle.bucket_slots.specs.Clearing.{slots_after_insertion};
 ghost use Rattle.bucket_slots.specs.Digested.{AnswersPut, TakesWanted, UpsertsIn};
 
 use super::BucketArray;
+use super::digests::is_lost;
 use crate::bucket::{EqProbe, Generation, INDEX, KeyProbe};
 use crate::lru::LruList;
 use std::mem;
@@ -149,6 +150,11 @@ impl<K: Drop, V: Drop, L: LruList, const TYPE: u8> BucketArray<K, V, L, TYPE> {
             (bucket_at self.old index) result left
             × (self.new ≡ slice_set self.old index left) }
     {
+        if is_lost(self.digests.live(index)) {
+            if self.buckets.is_short() {
+                return self.upsert_lost(index, hash, key, value, generation);
+            }
+        }
         self.heal(index);
         match self.find_by(index, hash, &mut EqProbe::new(&key)) {
             Some(at) => {
@@ -163,8 +169,39 @@ impl<K: Drop, V: Drop, L: LruList, const TYPE: u8> BucketArray<K, V, L, TYPE> {
         }
     }
 
+    /// Does what `upsert` does, where the bucket has no digest.
+    #[inline(always)]
+    fn upsert_lost<G: Generation>(
+        &mut self,
+        index: usize,
+        hash: u64,
+        key: K,
+        value: V,
+        generation: &G,
+    ) -> Result<Option<V>, (K, V)>
+    where
+        K: Eq,
+        requires { index < length self.old }
+        ensures { (left : BucketView K V)
+            × UpsertsIn K.eq key value (hash % 256) TYPE (G.keeps generation.now)
+            (bucket_at self.old index) result left
+            × (self.new ≡ slice_set self.old index left) }
+    {
+        self.room();
+        let bucket = self.bucket_mut(index);
+        let at = bucket.get_entry_ptr(&key, hash);
+        if at.is_valid() {
+            let (_own, held) = bucket.entry_mut(&at);
+            return Ok(Some(mem::replace(held, value)));
+        }
+        match bucket.insert(hash, (key, value), generation) {
+            Ok(_) => Ok(None),
+            Err(pair) => Err(pair),
+        }
+    }
+
     /// Does what `insert_absent` does, where the bucket has no digest or is an index's.
-    #[inline(never)]
+    #[inline(always)]
     fn insert_lost<G: Generation>(
         &mut self,
         index: usize,

@@ -144,6 +144,25 @@ impl<K, V, L: LruList, const TYPE: u8> Arrays<K, V, L, TYPE> {
         Some(index)
     }
 
+    /// Returns the index of a hash's home in the current array, if that has at most four buckets,
+    /// there is no old one, and a writer tries no growth there.
+    #[inline(always)]
+    pub(crate) fn short_home(&self, hash: u64) -> Option<usize>
+        ensures { IfSome result (λ index. IsRoomy self.now hash index) }
+    {
+        if self.has_old() {
+            return None;
+        }
+        let Some(array) = &self.current else {
+            return None;
+        };
+        let index = array.bucket_index(hash);
+        if !array.has_fewer_short(index, BUCKET_LEN - 1) {
+            return None;
+        }
+        Some(index)
+    }
+
     /// Returns the index of a hash's home in the current array, if there is no old one and the
     /// home's digest shows that a writer tries no growth there.
     #[inline(always)]

@@ -163,6 +163,9 @@ impl<K: Eq + Drop, V: Drop, H: KeyHash<K>, L: LruList + Drop, const TYPE: u8> Ha
         if let Some(index) = self.roomy_home(hash) {
             return self.insert_at(Side::Current, index, hash, key, value, generation);
         }
+        if let Some(index) = self.short_home(hash) {
+            return self.insert_at(Side::Current, index, hash, key, value, generation);
+        }
         self.insert_found(hash, key, value, generation, rule)
     }
 

@@ -113,6 +113,16 @@ impl<K: Eq + Drop, V: Drop, H: KeyHash<K>, L: LruList + Drop, const TYPE: u8> Ha
         (side, index)
     }
 
+    /// Returns the bucket that `find` finds for a writer of a hash, a current one, if the array has
+    /// at most four buckets and `find` changes nothing.
+    #[inline(always)]
+    pub(super) fn short_home(&self, hash: u64) -> Option<usize>
+        ensures { IfSome result (λ index. (rule : ResizeRule)
+            → FindsBucket rule TYPE hash self.now Current index self.now) }
+    {
+        self.arrays.short_home(hash)
+    }
+
     /// Returns the bucket that `find` finds for a writer of a hash, a current one, if its digest
     /// shows that `find` changes nothing.
     #[inline(always)]

@@ -114,6 +114,9 @@ impl<K: Eq + Drop, V: Drop, H: KeyHash<K>, L: LruList + Drop, const TYPE: u8> Ha
         if let Some(index) = self.roomy_home(hash) {
             return self.upsert_at(Side::Current, index, hash, key, value, generation);
         }
+        if let Some(index) = self.short_home(hash) {
+            return self.upsert_at(Side::Current, index, hash, key, value, generation);
+        }
         self.upsert_found(hash, key, value, generation, rule)
     }
 

@@ -18,16 +18,15 @@ invariant_of-result g c =
     let e : ℕ = c.ilog2.result in
     let is = log_is _ e made.power log.power_le log.next_power_gt in
     let some : 0 < e = exponent_lt 0 e (omega (arith, made.at_least)) in
-    let back : e ≡ 64 - (64 - e) = omega arith in
-    rw (ap length c.in_ok-buckets.ensures ∙ length-replicate c.len_for-len.result empty_bucket) (
-      record {
+    let back : e ≡ 64 - (64 - e) = omega arith in (
+      rw (ap length c.in_ok-buckets.ensures ∙ length-replicate c.len_for-len.result empty_bucket) (record {
         several = made.at_least;
         few = made.at_most;
         offset_positive = omega arith;
         offset_in_range = omega arith;
         len_is = is ∙ ap (λ (k : ℕ). 2 ^ k) back;
         sampled = c.large_sample_size_of.ensures;
-      },
+      }),
       AreDigests-none _ _ c.none.ensures,
     )
 

@@ -8,4 +8,4 @@ pub returns : goal.returns
 returns g c = λ yes.
     let few : ones c.live.result < c.args.len = search rules in
     few_live (digest_at c.self.inside.digests c.args.index) (bucket_at c.args.self.now c.args.index) c.args.len
-    (λ known. rw c.self.view_is at (c.self.invariant.1 c.args.index known)) c.requires (rw c.live.ensures at few)
+    (λ known. rw c.self.view_is at (c.self.invariant.1 c.args.index known).1) c.requires (rw c.live.ensures at few)

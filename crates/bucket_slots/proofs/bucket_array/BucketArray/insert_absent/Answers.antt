@@ -10,8 +10,11 @@ invariant_of-self g c =
     let is = c.self.invariant.1 c.args.index c.in-Some.ensures.said in
     rw c.fill-pos.ensures.slots (set_at _ _ c.self.inside.buckets c.args.index _ _ c.self.invariant (rw c.self.view_is c.requires)
     c.fill.ensures.others left
-    (λ said. IsDigest-put _ _ b _ (c.args.key, c.args.value) (c.args.hash % 256) is c.fill-pos.ensures.place c.fill-pos.ensures.short
-    c.fill.ensures.live c.fill.ensures.bytes))
+    (λ said. (
+      is.0,
+      IsDigest-put _ _ b _ (c.args.key, c.args.value) (c.args.hash % 256) is.1 c.fill-pos.ensures.place
+          c.fill-pos.ensures.short c.fill.ensures.live c.fill.ensures.bytes,
+    )))
 
 pub returns-clause-put : goal.returns-clause-put
 returns-clause-put g c =

@@ -14,7 +14,7 @@ invariant_of-self g c =
     let is = c.self.invariant.1 c.args.index c.in-Some.ensures.said in
     rw c.remove-pair.ensures.slots (set_at _ _ c.self.inside.buckets c.args.index _ _ c.self.invariant (rw c.self.view_is c.requires.within)
     c.free-left.ensures.others (slots_without b at)
-    (λ said. IsDigest-freed _ _ b (slots_without b at) _ is own.1 bits c.free-left.ensures.bytes without.0 without.1))
+    (λ said. (is.0, IsDigest-freed _ _ b (slots_without b at) _ is.1 own.1 bits c.free-left.ensures.bytes without.0 without.1)))
 
 pub returns-clause-taken : goal.returns-clause-taken
 returns-clause-taken g c =
@@ -24,7 +24,7 @@ returns-clause-taken g c =
     let bits = rw c.pos-pos.ensures at c.free-left.ensures.live in
     let without = without_own b at own.0 in
     let is = c.self.invariant.1 c.args.index c.in-Some.ensures.said in
-    let left = IsDigest-freed _ (digest_at c.free-left.new.self c.args.index) b (slots_without b at) _ is own.1 bits
+    let left = IsDigest-freed _ (digest_at c.free-left.new.self c.args.index) b (slots_without b at) _ is.1 own.1 bits
     c.free-left.ensures.bytes
     without.0 without.1 in
     rw (← c.self.view_is) (record {

@@ -1,26 +1,19 @@
-use Rattle.bucket_slots.proofs.Words.{arith, bucket_with_value, is_live, refl, rules, slot_in, sym, true, ◌∙◌, ◌≡◌}
+use Rattle.bucket_slots.proofs.Words.{arith, bucket_with_value, is_live, refl, rules, slot_in, true, ◌≡◌}
 use Rattle.bucket_slots.specs.ArrayView.{bucket_at}
 use Rattle.bucket_slots.specs.Evicting.{slots_touched}
 use Rattle.bucket_slots.proofs.Digests.{IsDigest-touched, IsDigest-valued, kept_at}
 use Rattle.bucket_slots.proofs.bucket_array.BucketArray.touch_entry_mut.Goals as goal
 
-pub made_mut-bucket-requires : goal.made_mut-bucket-requires
-made_mut-bucket-requires g c =
-    let own = sym c.block.ensures ∙ c.if-block-ne0.false in
-    let b = bucket_at c.self.inside.buckets c.args.index in
-    let alive : is_live (slot_in b c.args.at.now) ≡ true = rw c.self.view_is c.requires.live_slot in
-    (search rules, (search rules, (rw c.self.view_is c.requires.within, (c.args.at.now.pos, rw own at alive))))
-
 pub update_lru_tail-requires : goal.update_lru_tail-requires
 update_lru_tail-requires g c = (
   c.room.ensures.fits,
-  (omega arith, (c.requires.cache, rw (c.made_mut-bucket.ensures.bucket, c.self.view_is) c.requires.live_slot)),
+  (omega arith, (c.requires.cache, rw (c.get_mut-bucket.ensures.bucket, c.self.view_is) c.requires.live_slot)),
 )
 
 pub entry_mut-requires-2 : goal.entry_mut-requires-2
 entry_mut-requires-2 g c = (
   search rules,
-  (omega arith, rw (c.update_lru_tail.ensures, c.made_mut-bucket.ensures.bucket, c.self.view_is) c.requires.live_slot),
+  (omega arith, rw (c.update_lru_tail.ensures, c.get_mut-bucket.ensures.bucket, c.self.view_is) c.requires.live_slot),
 )
 
 pub invariant_of-self-lent : goal.invariant_of-self-lent
@@ -28,15 +21,15 @@ invariant_of-self-lent g c w =
     let b = bucket_at c.self.inside.buckets c.args.index in
     let left = slots_touched g.L.LruList.KEEPS b c.args.at.now in
     let alive : is_live (slot_in left c.args.at.now) ≡ true = rw c.self.view_is c.requires.live_slot in
-    rw (c.update_lru_tail.ensures, c.made_mut-bucket.ensures.bucket) (kept_at _ c.self.inside.buckets c.args.index _ _ c.self.invariant
+    rw (c.update_lru_tail.ensures, c.get_mut-bucket.ensures.bucket) (kept_at _ c.self.inside.buckets c.args.index _ _ c.self.invariant
     (rw c.self.view_is c.requires.within) (bucket_with_value left c.args.at.now w)
     (λ digest is. IsDigest-valued digest left c.args.at.now w alive (IsDigest-touched digest g.L.LruList.KEEPS b c.args.at.now is)))
 
 pub returns : goal.returns
 returns g c = (
-  (refl, λ w. rw (c.update_lru_tail.ensures, c.made_mut-bucket.ensures.bucket, c.self.view_is) refl),
+  (refl, λ w. rw (c.update_lru_tail.ensures, c.get_mut-bucket.ensures.bucket, c.self.view_is) refl),
   record {
     writes_back = tt;
-    pair = rw (c.update_lru_tail.ensures, c.made_mut-bucket.ensures.bucket, c.self.view_is) at c.entry_mut-2.ensures.pair;
+    pair = rw (c.update_lru_tail.ensures, c.get_mut-bucket.ensures.bucket, c.self.view_is) at c.entry_mut-2.ensures.pair;
   },
 )

@@ -12,7 +12,7 @@ returns-then-candidates-eq0-clause-place g c =
 pub made-requires : goal.made-requires
 made-requires g c =
     let alive = some_in_mask (c.args.hash % 256) _ _ c.requires.mask c.ranges.candidates.fits c.if-candidates-eq0.false in
-    (search rules, (search rules, (c.requires.within, alive)))
+    (search rules, (search rules, (c.requires.long, (c.requires.within, alive))))
 
 pub find_among-requires : goal.find_among-requires
 find_among-requires g c = rw c.made.ensures (c.room.ensures, (search rules, (c.requires.mask, c.requires.chainless)))

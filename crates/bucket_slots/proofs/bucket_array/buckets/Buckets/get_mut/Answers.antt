@@ -1,39 +1,23 @@
-use Rattle.bucket_slots.proofs.Words.{[], ap, arith, empty_bucket, get_or, get_or_read, length, refl, rules, ◌<◌, ◌∙◌}
-use Rattle.bucket_slots.proofs.ArrayParts.{place_is}
+use Rattle.bucket_slots.proofs.Words.{ap, empty_bucket, get_or, get_or_read, inl, length, refl, set, sym, ◌<◌, ◌∙◌}
+use Rattle.bucket_slots.proofs.ArrayParts.{few_parts, few_view, few_with, len_of}
 use Rattle.bucket_slots.proofs.bucket_array.buckets.Buckets.get_mut.Goals as goal
-
-pub index_mut-held-requires : goal.index_mut-held-requires
-index_mut-held-requires g c =
-    let at = c.place_of-part.ensures in
-    let place = place_is _ _ _ _ c.self.invariant.0 _ _ _ _ c.self.view_is c.requires at.part at.offset in
-    omega (arith, c.self.inside.parts.ok.0, place.within)
-
-pub bucket_mut-requires : goal.bucket_mut-requires
-bucket_mut-requires g c =
-    let at = c.place_of-part.ensures in
-    let place = place_is _ _ _ _ c.self.invariant.0 _ _ _ _ c.self.view_is c.requires at.part at.offset in
-    let here = get_or_read c.self.inside.parts.items c.place_of-part.result.0 c.index_mut-held.result.now place.within
-    c.index_mut-held.ensures.value [] in
-    let inside : c.place_of-part.result.1 < length c.index_mut-held.result.now = rw here place.inside in
-    (search rules, (c.room.ensures, (c.room.ensures, inside)))
 
 pub invariant_of-self-lent : goal.invariant_of-self-lent
 invariant_of-self-lent g c w =
-    let at = c.place_of-part.ensures in
-    let place = place_is _ _ _ _ c.self.invariant.0 _ _ _ _ c.self.view_is c.requires at.part at.offset in
-    let here = get_or_read c.self.inside.parts.items c.place_of-part.result.0 c.index_mut-held.result.now place.within
-    c.index_mut-held.ensures.value [] in
-    rw here (place.kept w, c.self.invariant.1)
+    let short = c.is_short.ensures.0 c.if-is_short.true in
+    let few = few_parts c.self.invariant.0 (rw (len_of c.self.invariant.0 ∙ ap length c.self.view_is) short) in
+    (inl (few_with few c.args.index w), c.self.invariant.1)
 
-pub returns : goal.returns
-returns g c =
-    let at = c.place_of-part.ensures in
-    let place = place_is _ _ _ _ c.self.invariant.0 _ _ _ _ c.self.view_is c.requires at.part at.offset in
-    let here = get_or_read c.self.inside.parts.items c.place_of-part.result.0 c.index_mut-held.result.now place.within
-    c.index_mut-held.ensures.value [] in (
-      (refl, λ w. rw here (place.written w)),
+pub returns-then-is_short : goal.returns-then-is_short
+returns-then-is_short g c =
+    let short = c.is_short.ensures.0 c.if-is_short.true in
+    let few = few_parts c.self.invariant.0 (rw (len_of c.self.invariant.0 ∙ ap length c.self.view_is) short) in
+    let held = sym (few_view few) ∙ c.self.view_is in
+    let within : c.args.index < length c.self.inside.beside.items = rw held c.requires in (
+      (refl, λ w. few_view (few_with few c.args.index w) ∙ ap (λ buckets. set buckets c.args.index w) held),
       record {
         writes_back = tt;
-        bucket = c.bucket_mut.ensures.bucket ∙ ap (λ part. get_or part c.place_of-part.result.1 empty_bucket) here ∙ place.read;
+        bucket = get_or_read c.self.inside.beside.items c.args.index c.index_mut.result.now within c.index_mut.ensures.value empty_bucket
+            ∙ ap (λ buckets. get_or buckets c.args.index empty_bucket) held;
       },
     )

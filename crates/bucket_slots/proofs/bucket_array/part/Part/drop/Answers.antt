@@ -1,11 +1,6 @@
-use Rattle.bucket_slots.proofs.Words.{arith, le-mul_of_pos_right, mul_comm, subst, ℕ, ◌*◌, ◌<◌, ◌^◌, ◌≤◌}
+use Rattle.bucket_slots.proofs.Words.{arith}
+use Rattle.bucket_slots.proofs.ArrayParts.{one_fits}
 use Rattle.bucket_slots.proofs.bucket_array.part.Part.drop.Goals as goal
-
--- where n items fit in memory together, one does
-one_fits : (n s : ℕ) → 0 < n → n * s < 2 ^ 63 → s < 2 ^ 63
-one_fits n s some all =
-    let least : s ≤ n * s = subst (λ (k : ℕ). s ≤ k) (mul_comm s n) (le-mul_of_pos_right s some) in
-    omega (arith, least, all)
 
 pub drop-requires-room-T-Destruct : goal.drop-requires-room-T-Destruct
 drop-requires-room-T-Destruct g c κs within =

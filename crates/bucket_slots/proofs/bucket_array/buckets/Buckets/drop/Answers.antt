@@ -1,0 +1,7 @@
+use Rattle.bucket_slots.proofs.Words.{arith}
+use Rattle.bucket_slots.proofs.ArrayParts.{one_fits, some_beside}
+use Rattle.bucket_slots.proofs.bucket_array.buckets.Buckets.drop.Goals as goal
+
+pub drop-requires-2-room-T-Destruct : goal.drop-requires-2-room-T-Destruct
+drop-requires-2-room-T-Destruct g c κs within =
+    one_fits _ _ (omega (arith, some_beside c.self.invariant.0, c.as_slice.ensures.len)) c.as_slice.type_inv.1
