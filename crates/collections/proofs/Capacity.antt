@@ -81,7 +81,7 @@ none_held many = many 64 (record {
   enough = λ full. absurd (omega (arith, full));
 })
 
-pub minimum_none : (pairs : ℕ) → pairs ≡ 0 → IsMinimumFor pairs 0
+pub minimum_none : (pairs : ℕ) → pairs ≡ 0 → IsMinimumFor pairs 64
 minimum_none pairs none = record {
   none = λ is. refl;
   some = λ more slots is. absurd (omega (arith, more, none));

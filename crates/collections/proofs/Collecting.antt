@@ -15,7 +15,7 @@ use Rattle.collections.specs.Maps.{IsEmpty, IsUnique, MapView, get}
 use Rattle.collections.proofs.Staying.{adds_after, replaces_after, stays_after}
 
 -- a map that was made empty
-pub new_is : {K V H : Type 0} (m : MapView K V H) → IsEmpty m → m.minimum ≡ 0 → m.maximum ≡ 2 ^ 63
+pub new_is : {K V H : Type 0} (m : MapView K V H) → IsEmpty m → m.minimum ≡ 64 → m.maximum ≡ 2 ^ 63
     → (m.slots ≡ 0) × (m.old_slots ≡ 0) → m.bucket_lens ≡ [] → m ≡ empty_map m.hasher
 new_is m empty minimum maximum (slots, old_slots) buckets = λ i. record {
   entries = empty i;
@@ -141,7 +141,7 @@ module _ {K V H : Type 0} (eq : K → K → Bool) where
       from_before (p ∷ ps) between last went = (between, (went.0, put_after old mid went.0 stays p.0 p.1 went.1, went.2), last)
 
   -- a map of which no more is said than that it was made empty, and that room was made in it
-  pub put_into_new : (first ready made : MapView K V H) (pairs : List (K × V)) → IsEmpty first → first.minimum ≡ 0 → first.maximum ≡ 2 ^ 63
+  pub put_into_new : (first ready made : MapView K V H) (pairs : List (K × V)) → IsEmpty first → first.minimum ≡ 64 → first.maximum ≡ 2 ^ 63
       → (first.slots ≡ 0) × (first.old_slots ≡ 0) → first.bucket_lens ≡ [] → Stays eq first ready → PutsAll eq ready pairs made
       → PutsAll eq (empty_map made.hasher) pairs made
   put_into_new first ready made pairs empty minimum maximum slots buckets stays puts =

@@ -135,7 +135,7 @@ module _ {K H : Type 0} (eq : K → K → Bool) (laws : IsEquivalence eq) where
       from_before (k ∷ ks) between last went = (between, (went.0, put_after old mid went.0 stays k went.1, went.2), last)
 
   -- a set of which no more is said than that it was made empty, and that room was made in it
-  pub keys_into_new : (first ready made : MapView K (Unit {0}) H) (keys : List K) → IsEmpty first → first.minimum ≡ 0
+  pub keys_into_new : (first ready made : MapView K (Unit {0}) H) (keys : List K) → IsEmpty first → first.minimum ≡ 64
       → first.maximum ≡ 2 ^ 63 → (first.slots ≡ 0) × (first.old_slots ≡ 0) → first.bucket_lens ≡ [] → Stays eq first ready
       → PutsKeys eq ready keys made → PutsKeys eq (empty_map made.hasher) keys made
   keys_into_new first ready made keys empty minimum maximum slots buckets stays puts =

@@ -18,9 +18,9 @@ pub record IsSlotsFor (pairs slots : ℕ) : Type 0 where
 abbrev pub AreTooMany : ℕ → Type 0
 AreTooMany pairs = (slots : ℕ) → HoldsAll pairs slots → ⊥
 
--- the minimum of a map whose first array is to have room for some pairs: 0 for none, and 2^63 where they are too many
+-- the minimum of a map whose first array is to have room for some pairs: 64 for none, and 2^63 where they are too many
 pub record IsMinimumFor (pairs minimum : ℕ) : Type 0 where
-  pub none : pairs ≡ 0 → minimum ≡ 0
+  pub none : pairs ≡ 0 → minimum ≡ 64
   pub some : 0 < pairs → (slots : ℕ) → IsSlotsFor pairs slots → minimum ≡ slots
   pub beyond : AreTooMany pairs → minimum ≡ 2 ^ 63
 

@@ -13,7 +13,7 @@ use Rattle.collections.specs.Slots.{GrowsSlots}
 
 -- a map as it is made: it has no pair and no slot
 abbrev pub empty_map : {K V H : Type 0} → H → MapView K V H
-empty_map hasher = record { entries = []; hasher = hasher; minimum = 0; maximum = 2 ^ 63; slots = 0; old_slots = 0; bucket_lens = [] }
+empty_map hasher = record { entries = []; hasher = hasher; minimum = 64; maximum = 2 ^ 63; slots = 0; old_slots = 0; bucket_lens = [] }
 
 -- borrowed pairs, by value
 abbrev pub copied_pairs : {K V : Type 0} → List (Bor K × Bor V) → List (K × V)

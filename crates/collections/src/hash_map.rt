@@ -39,6 +39,7 @@ use crate::default_hash::DefaultHash;
 use crate::homes::{learn_homes, learn_refused};
 use crate::key_form::{FormProbe, KeyForm, value_by};
 use crate::room::{Fits, TableRoom};
+use crate::sizing::LEAST_CAPACITY;
 use bucket_slots::bucket::MAP;
 pub use bucket_table::hash_table::NotInserted;
 use bucket_table::hash_table::{HashTable, ResizeRule};
@@ -81,19 +82,20 @@ impl<K: Eq, V, H: KeyHash<K>> Model for HashMap<K, V, H> {
 impl<K: Eq, V, H: KeyHash<K>> HashMap<K, V, H> {
     ghost use Rattle.collections.specs.Room.{MapFits};
 
-    /// Returns an empty map. Takes no memory.
+    /// Returns an empty map with a minimum of 64 slots. Takes no memory: the first insertion makes
+    /// the slots, and the removal of the last pair keeps so many.
     ///
-    /// O(1). scc: `HashMap::with_hasher`.
+    /// O(1). scc: `HashMap::with_hasher`, whose minimum is 0.
     pub fn with_hasher(alloc: Global, hasher: H) -> Self
         requires { MapFits K.row V.row H.row K.PartialEq H.KeyHash }
         ensures empty { IsEmpty result }
         ensures hasher { result.hasher ≡ hasher }
-        ensures minimum { result.minimum ≡ 0 }
+        ensures minimum { result.minimum ≡ 64 }
         ensures maximum { result.maximum ≡ 2 ^ 63 }
         ensures slots { (result.slots ≡ 0) × (result.old_slots ≡ 0) }
         ensures buckets { result.bucket_lens ≡ [] }
     {
-        Self::with_minimum(alloc, hasher, 0)
+        Self::with_minimum(alloc, hasher, LEAST_CAPACITY)
     }
 
     /// Returns the hasher.
@@ -292,12 +294,13 @@ impl<K: Eq + Debug, V: Debug, H: KeyHash<K>> Debug for HashMap<K, V, H> {
 }
 
 impl<K: Eq + Hash, V> HashMap<K, V, DefaultHash> {
-    /// Returns an empty map that hashes by std's default. Takes no memory.
+    /// Returns an empty map with a minimum of 64 slots that hashes by std's default, as
+    /// `with_hasher` does. Takes no memory.
     ///
-    /// O(1). scc: `HashMap::new`.
+    /// O(1). scc: `HashMap::new`, whose minimum is 0.
     pub fn new(alloc: Global) -> Self
         ensures empty { IsEmpty result }
-        ensures minimum { result.minimum ≡ 0 }
+        ensures minimum { result.minimum ≡ 64 }
         ensures maximum { result.maximum ≡ 2 ^ 63 }
         ensures slots { (result.slots ≡ 0) × (result.old_slots ≡ 0) }
         ensures buckets { result.bucket_lens ≡ [] }
@@ -307,14 +310,14 @@ impl<K: Eq + Hash, V> HashMap<K, V, DefaultHash> {
 }
 
 impl<K: Eq + Hash, V> HashMap<K, V, StdHash<RandomState>> {
-    /// Returns an empty map that hashes by keys drawn at random, for keys that an adversary may
-    /// pick. Takes no memory.
+    /// Returns an empty map with a minimum of 64 slots that hashes by keys drawn at random, for keys
+    /// that an attacker may pick. Takes no memory.
     ///
     /// O(1). Own: what std's `new` does.
     pub fn with_random_state(alloc: Global, state: RandomState) -> Self
         ensures empty { IsEmpty result }
         ensures hasher { result.hasher.builder ≡ state }
-        ensures minimum { result.minimum ≡ 0 }
+        ensures minimum { result.minimum ≡ 64 }
         ensures maximum { result.maximum ≡ 2 ^ 63 }
         ensures slots { (result.slots ≡ 0) × (result.old_slots ≡ 0) }
         ensures buckets { result.bucket_lens ≡ [] }

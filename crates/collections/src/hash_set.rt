@@ -61,14 +61,15 @@ impl<K: Eq, H: KeyHash<K>> Model for HashSet<K, H> {
 impl<K: Eq, H: KeyHash<K>> HashSet<K, H> {
     ghost use Rattle.collections.specs.Room.{SetFits};
 
-    /// Returns an empty set. Takes no memory.
+    /// Returns an empty set with a minimum of 64 slots. Takes no memory: the first insertion makes
+    /// the slots, and the removal of the last key keeps so many.
     ///
-    /// O(1). scc: `HashSet::with_hasher`.
+    /// O(1). scc: `HashSet::with_hasher`, whose minimum is 0.
     pub fn with_hasher(alloc: Global, hasher: H) -> Self
         requires { SetFits K.row H.row K.PartialEq H.KeyHash }
         ensures empty { IsEmpty result }
         ensures hasher { result.hasher ≡ hasher }
-        ensures minimum { result.minimum ≡ 0 }
+        ensures minimum { result.minimum ≡ 64 }
         ensures maximum { result.maximum ≡ 2 ^ 63 }
         ensures slots { (result.slots ≡ 0) × (result.old_slots ≡ 0) }
         ensures buckets { result.bucket_lens ≡ [] }
@@ -271,12 +272,13 @@ impl<K: Eq + Copy, H: KeyHash<K> + Copy> HashSet<K, H> {
 }
 
 impl<K: Eq + Hash> HashSet<K, DefaultHash> {
-    /// Returns an empty set that hashes by std's default. Takes no memory.
+    /// Returns an empty set with a minimum of 64 slots that hashes by std's default, as
+    /// `with_hasher` does. Takes no memory.
     ///
-    /// O(1). scc: `HashSet::new`.
+    /// O(1). scc: `HashSet::new`, whose minimum is 0.
     pub fn new(alloc: Global) -> Self
         ensures empty { IsEmpty result }
-        ensures minimum { result.minimum ≡ 0 }
+        ensures minimum { result.minimum ≡ 64 }
         ensures maximum { result.maximum ≡ 2 ^ 63 }
         ensures slots { (result.slots ≡ 0) × (result.old_slots ≡ 0) }
         ensures buckets { result.bucket_lens ≡ [] }
@@ -286,14 +288,14 @@ impl<K: Eq + Hash> HashSet<K, DefaultHash> {
 }
 
 impl<K: Eq + Hash> HashSet<K, StdHash<RandomState>> {
-    /// Returns an empty set that hashes by keys drawn at random, for keys that an adversary may
-    /// pick. Takes no memory.
+    /// Returns an empty set with a minimum of 64 slots that hashes by keys drawn at random, for keys
+    /// that an attacker may pick. Takes no memory.
     ///
     /// O(1). Own: what std's `new` does.
     pub fn with_random_state(alloc: Global, state: RandomState) -> Self
         ensures empty { IsEmpty result }
         ensures hasher { result.hasher.builder ≡ state }
-        ensures minimum { result.minimum ≡ 0 }
+        ensures minimum { result.minimum ≡ 64 }
         ensures maximum { result.maximum ≡ 2 ^ 63 }
         ensures slots { (result.slots ≡ 0) × (result.old_slots ≡ 0) }
         ensures buckets { result.bucket_lens ≡ [] }

@@ -54,7 +54,7 @@ pub(crate) fn minimum_for(pairs: usize) -> usize
     ensures { IsMinimumFor pairs result }
 {
     if pairs == 0 {
-        return 0;
+        return LEAST_CAPACITY;
     }
     match slots_for(pairs) {
         Some(slots) => slots,

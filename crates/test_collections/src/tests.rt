@@ -1,43 +1,27 @@
 //! Tests of what no clause says: that calls succeed if allocation does, that collections grow and
-//! shrink, and that values are dropped once; random calls compared with a map of the standard
-//! library; and what the tests of that library's maps and sets and of the crates `lru` and
-//! `hashbrown` check.
-mod borrowed_keys;
-mod by_chance;
+//! shrink, and what their iterators yield; and what the tests of the standard library's maps and sets
+//! and of the crate `lru` check. Tests of keys and values of other types are in `test_keys`.
 mod cache_changes;
-mod cache_drops;
 mod caches;
 mod copies;
 mod draining;
-mod drops;
-mod emptied;
 mod entries;
-mod entries_by_text;
 mod equality;
 mod extending;
 mod extracting;
-mod forms;
-mod hashers;
 mod hints;
-mod in_order;
 mod indexes;
 mod iterating;
 mod lru_caches;
-mod made_keys;
 mod map_stories;
 mod maps;
-mod marks;
 mod printing;
 mod sets;
-mod std_calls;
 mod std_entries;
 mod std_maps;
 mod std_sets;
-mod std_shapes;
-mod tags;
 mod two_maps;
 mod two_sets;
-mod words;
 
 use std::fmt::Debug;
 use std::mem;

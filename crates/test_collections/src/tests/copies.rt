@@ -1,7 +1,6 @@
 //! Copies of sets and indexes, and of words that a map and a set have, which name no hasher: each
 //! copy has its own.
 use super::check_same;
-use super::forms::owned;
 use super::sets::{Set, fill_set};
 use bucket_table::script::ScriptHash;
 use collections::hash_index::HashIndex;
@@ -118,4 +117,12 @@ fn check_copied_set(rt: &impl Abort, names: &mut Names, copy: &Names) {
         check_same(rt, (copy.contains(*name), copy.len()), (true, 3), *name);
     }
     check_same(rt, copy.contains("Ben"), false, "Ben");
+}
+
+// A text as an owned word; no text if allocation fails.
+fn owned(alloc: Global, text: &str) -> String {
+    match String::from_str(alloc, text) {
+        Ok(own) => own,
+        Err(_) => String::new(alloc),
+    }
 }

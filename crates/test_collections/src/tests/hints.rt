@@ -53,11 +53,7 @@ fn exactly(items: usize) -> Hint {
 
 // What an iterator over so many items says that counts them.
 fn counted(items: usize) -> Hints {
-    (
-        exactly(items),
-        exactly(items.saturating_sub(1)),
-        exactly(0),
-    )
+    (exactly(items), exactly(items.saturating_sub(1)), exactly(0))
 }
 
 // What an iterator says that tries so many items, of which it returns some, or all.
@@ -97,7 +93,12 @@ fn iterators_by_value_count_what_is_left(rt: HostRuntime) -> Result<(), Fail> {
         let wanted = counted(row.len);
         let mut drained = map_of(rt.alloc(), row);
         check_same(&rt, hints!(drained.drain()), wanted, (row.name, "drain"));
-        check_same(&rt, hints!(drained.drain()), counted(0), (row.name, "again"));
+        check_same(
+            &rt,
+            hints!(drained.drain()),
+            counted(0),
+            (row.name, "again"),
+        );
         let pairs = map_of(rt.alloc(), row).into_iter();
         check_same(&rt, hints!(pairs), wanted, (row.name, "into_iter"));
         let keys = map_of(rt.alloc(), row).into_keys();

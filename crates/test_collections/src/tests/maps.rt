@@ -263,13 +263,3 @@ fn pair(map: &Map, key: u64) -> Option<(u64, u64)> {
 fn met(map: &Map) -> Option<usize> {
     gone_over!(map, get)
 }
-
-// A new map takes words.
-pub(super) fn check_words(rt: &impl Abort, words: &mut HashMap<&'static str, u64>) {
-    check_same(rt, (words.len(), words.capacity()), (0, 0), "new");
-    let came = (words.insert("a", 1).is_ok(), words.insert("b", 2).is_ok());
-    check_same(rt, came, (true, true), "insert");
-    let found = (words.get(&"a").copied(), words.get(&"c").copied());
-    check_same(rt, found, (Some(1), None), "get");
-    check_same(rt, words.remove(&"b"), Some(("b", 2)), "remove");
-}

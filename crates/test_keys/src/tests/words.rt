@@ -1,7 +1,7 @@
 //! Words that are looked up by texts, and lists by slices, in collections that name no hasher; and
 //! the errors that return a word.
 use super::forms::{Words, no_words, owned, put};
-use super::{At, check_same, maps, sets, steps};
+use super::{At, check_same, steps};
 use Step::*;
 use collections::hash_map::{HashMap, NotInserted};
 use collections::hash_set::HashSet;
@@ -125,8 +125,8 @@ fn refusals_are_errors_and_give_the_pair(rt: HostRuntime) -> Result<(), Fail> {
 
 #[test]
 fn a_new_map_and_a_new_set_take_words(rt: HostRuntime) -> Result<(), Fail> {
-    maps::check_words(&rt, &mut HashMap::new(rt.alloc()));
-    sets::check_words(&rt, &mut HashSet::new(rt.alloc()));
+    check_map(&rt, &mut HashMap::new(rt.alloc()));
+    check_set(&rt, &mut HashSet::new(rt.alloc()));
     Ok(())
 }
 
@@ -174,4 +174,22 @@ fn kind(outcome: Result<(), NotInserted<&'static str, u64>>) -> Option<ErrorKind
 fn passed_on(outcome: Result<(), NotInserted<&'static str, u64>>) -> io::Result<()> {
     outcome?;
     Ok(())
+}
+
+// A new map takes words.
+fn check_map(rt: &impl Abort, words: &mut HashMap<&'static str, u64>) {
+    check_same(rt, (words.len(), words.capacity()), (0, 0), "new");
+    let came = (words.insert("a", 1).is_ok(), words.insert("b", 2).is_ok());
+    check_same(rt, came, (true, true), "insert");
+    let found = (words.get(&"a").copied(), words.get(&"c").copied());
+    check_same(rt, found, (Some(1), None), "get");
+    check_same(rt, words.remove(&"b"), Some(("b", 2)), "remove");
+}
+
+// A new set takes words.
+fn check_set(rt: &impl Abort, words: &mut HashSet<&'static str>) {
+    check_same(rt, (words.len(), words.capacity()), (0, 0), "new");
+    let came = words.insert_new("a").is_ok();
+    let found = (came, words.contains(&"a"), words.contains(&"b"));
+    check_same(rt, found, (true, true, false), "contains");
 }

@@ -2,7 +2,6 @@
 //! insertions and times with many removals alternate, so that the map gets longer arrays and
 //! shorter ones again.
 use super::check_same;
-use super::maps::Map;
 use bucket_table::script::ScriptHash;
 use collections::hash_map::HashMap;
 use std::alloc::Global;
@@ -32,7 +31,7 @@ const SPREADING: u64 = 11400714819323198485;
 /// Two maps that have the same pairs, and a sequence of numbers that chooses the calls.
 #[derive(Drop)]
 struct Course {
-    map: Map,
+    map: HashMap<u64, u64, ScriptHash>,
     std: BTreeMap<u64, u64>,
     chance: Chance,
 }

@@ -194,7 +194,12 @@ fn a_map_frees_the_slots_of_most_of_its_pairs(rt: HostRuntime) -> Result<(), Fai
     }
     let (left, slots) = (map.len(), map.capacity());
     check_same(&rt, left, 100, "left");
-    check_same(&rt, slots <= left.saturating_mul(16), true, ("slots", slots));
+    check_same(
+        &rt,
+        slots <= left.saturating_mul(16),
+        true,
+        ("slots", slots),
+    );
     Ok(())
 }
 

@@ -1,0 +1,51 @@
+//! Tests of what no clause says, of keys and values of many types: keys looked up in another form
+//! and made of it, hashers that differ, keys in the order of another collection's slots, values that
+//! are dropped once, random calls compared with a map of the standard library, and calls that other
+//! libraries have.
+mod borrowed_keys;
+mod by_chance;
+mod cache_drops;
+mod drops;
+mod emptied;
+mod entries_by_text;
+mod forms;
+mod hashers;
+mod in_order;
+mod made_keys;
+mod marks;
+mod std_calls;
+mod std_shapes;
+mod tags;
+mod words;
+
+use std::fmt::Debug;
+use std::mem;
+use std::process::Abort;
+
+// A step's place: its story, and its number there.
+type At = (&'static str, usize);
+
+// Two values are equal. The row helps to find the place.
+fn check_same<T: PartialEq + Debug + Drop, R: Debug + Drop>(
+    rt: &impl Abort,
+    found: T,
+    wanted: T,
+    row: R,
+) {
+    assert_eq!(rt; found, wanted, "row {row:?}");
+}
+
+// Writes a number through a mutable reference, and returns the earlier one.
+fn write(place: Option<&mut u64>, number: u64) -> Option<u64> {
+    match place {
+        Some(own) => Some(mem::replace(own, number)),
+        None => None,
+    }
+}
+
+// Steps, several on a line.
+macro_rules! steps {
+    ($($step:expr),+ $(,)?) => { &[$($step),+] };
+}
+
+use steps;
