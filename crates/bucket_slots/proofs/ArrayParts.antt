@@ -261,7 +261,8 @@ module _ {K V : Type 0} where
     pub written : (bucket : BucketView K V) → buckets_of (parts_with parts part offset bucket) beside ≡ set buckets index bucket
     pub kept : (bucket : BucketView K V) → AreBuckets (parts_with parts part offset bucket) beside len bits
 
-  module _ (parts : List (Buckets K V)) (beside : Buckets K V) (len bits : ℕ) (all : AreBuckets parts beside len bits) (many : 4 < len) where
+  module _ (parts : List (Buckets K V)) (beside : Buckets K V) (len bits : ℕ) (all : AreBuckets parts beside len bits)
+      (many : 4 < len) where
     pub long_place : (part offset index : ℕ) (buckets : Buckets K V) → buckets_of parts beside ≡ buckets → index < length buckets
         → part ≡ index / 2 ^ bits → offset ≡ index % 2 ^ bits → IsLongPlace parts beside len bits part offset index buckets
     long_place part offset index buckets is below part_is offset_is =

@@ -252,7 +252,8 @@ module _ {K V : Type 0} where
   spread_in_buckets kind answers names parts beside len bits all many part offset start below part_is offset_is s t left spreads =
       let kept = long_parts all many in
       let inside : start < length (flattened parts) = rw (← long_view kept many) below in
-      let after = spread_in_parts kind answers names parts beside len bits kept part offset start inside part_is offset_is s t left spreads in
+      let after = spread_in_parts kind answers names parts beside len bits kept part offset start inside part_is offset_is s t left
+      spreads in
       (inr (after.0, many), rw (long_view kept many, long_view after.0 many) after.1)
 
   -- the buckets that a shift by an array's offset names are homes
@@ -305,4 +306,5 @@ module _ {K V : Type 0} where
       let left_kept = long_parts after many in
       let inside : start < length (flattened parts) = rw (← long_view kept many) below in
       rw (long_view kept many, long_view left_kept many)
-      (same_before parts (set parts part left) beside len bits part offset start left kept left_kept inside part_is offset_is refl same i before)
+      (same_before parts (set parts part left) beside len bits part offset start left kept left_kept inside part_is offset_is refl same i
+      before)

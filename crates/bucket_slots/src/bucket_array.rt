@@ -73,7 +73,7 @@ impl<K: Drop, V: Drop, L: LruList + Drop, const TYPE: u8> BucketArray<K, V, L, T
     /// # Errors
     ///
     /// Allocation failed: nothing is kept. The memory of all buckets is allocated here, part by
-    /// part; the buckets are made later.
+    /// part; more than four buckets are made later.
     ///
     /// O(parts), which are 1,024 at most. scc: `BucketArray::new`.
     pub fn alloc(alloc: Global, capacity: usize) -> Result<Self, AllocError>

@@ -310,8 +310,8 @@ impl<K: Eq + Hash, V> HashMap<K, V, DefaultHash> {
 }
 
 impl<K: Eq + Hash, V> HashMap<K, V, StdHash<RandomState>> {
-    /// Returns an empty map with a minimum of 64 slots that hashes by keys drawn at random, for keys
-    /// that an attacker may pick. Takes no memory.
+    /// Returns an empty map with a minimum of 64 slots that hashes by a random seed, for keys that
+    /// an attacker may pick. Takes no memory.
     ///
     /// O(1). Own: what std's `new` does.
     pub fn with_random_state(alloc: Global, state: RandomState) -> Self

@@ -288,8 +288,8 @@ impl<K: Eq + Hash> HashSet<K, DefaultHash> {
 }
 
 impl<K: Eq + Hash> HashSet<K, StdHash<RandomState>> {
-    /// Returns an empty set with a minimum of 64 slots that hashes by keys drawn at random, for keys
-    /// that an attacker may pick. Takes no memory.
+    /// Returns an empty set with a minimum of 64 slots that hashes by a random seed, for keys that
+    /// an attacker may pick. Takes no memory.
     ///
     /// O(1). Own: what std's `new` does.
     pub fn with_random_state(alloc: Global, state: RandomState) -> Self

@@ -1,6 +1,6 @@
 //! Tests of what no clause says: that calls succeed if allocation does, that collections grow and
-//! shrink, and what their iterators yield; and what the tests of the standard library's maps and sets
-//! and of the crate `lru` check. Tests of keys and values of other types are in `test_keys`.
+//! shrink, and what their iterators yield; and what the tests of the standard library's maps and
+//! sets and of the crate `lru` check. Tests of keys and values of other types are in `test_keys`.
 mod cache_changes;
 mod caches;
 mod copies;

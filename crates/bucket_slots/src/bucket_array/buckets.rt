@@ -3,8 +3,8 @@
 //! made at once.
 //!
 //! Model: the list of the buckets. Invariant (`AreBuckets`): the length is stored. Each part has as
-//! many buckets as the stored bits say, and beside the parts stand an empty bucket and a killed one,
-//! as which the buckets that aren't made are read. In a short array the buckets stand there instead.
+//! many buckets as the stored bits say, and beside the parts are an empty bucket and a killed one,
+//! as which the buckets that aren't made are read. In a short array its buckets are there instead.
 //!
 //! Own.
 ghost use Rattle.std.specs.Prelude.{◌≡◌, ◌≢◌, ℕ, ◌+◌, ◌-◌, ◌<◌, ◌≤◌, ◌^◌, ◌%◌, [], Some, true};
@@ -201,8 +201,8 @@ impl<K, V, L: LruList, const TYPE: u8> Buckets<K, V, L, TYPE> {
         self.parts[part].made_bucket(offset)
     }
 
-    /// Lends a bucket with a live own slot for writing, which is always made, of an array that isn't
-    /// short.
+    /// Lends a bucket with a live own slot, which is always made, for writing, of an array that
+    /// isn't short.
     #[inline(always)]
     pub(crate) fn made_mut(&mut self, index: usize) -> &mut Bucket<K, V, L, TYPE>
         requires long { 4 < length self.old }

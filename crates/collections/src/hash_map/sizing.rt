@@ -23,8 +23,8 @@ impl<K: Eq, V, H: KeyHash<K>> HashMap<K, V, H> {
     ghost use Rattle.collections.specs.Room.{MapFits};
 
     /// Returns an empty map, whose first insertion makes room for this number of pairs. Takes no
-    /// memory. The minimum is the least number of slots of which they take no more than 13 of 16: 64
-    /// for no pair, and 2^63, which no array has, where they are too many.
+    /// memory. The minimum is the least number of slots of which they take no more than 13 of 16:
+    /// 64 for no pair, and 2^63, which no array has, where they are too many.
     ///
     /// O(1). Own: std's `with_capacity_and_hasher`, which takes memory.
     pub fn with_capacity_and_hasher(alloc: Global, pairs: usize, hasher: H) -> Self

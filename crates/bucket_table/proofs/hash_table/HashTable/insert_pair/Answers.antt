@@ -17,10 +17,11 @@ insert_at-requires g c =
 
 pub returns-in-Some-short_home-clause-arrays : goal.returns-in-Some-short_home-clause-arrays
 returns-in-Some-short_home-clause-arrays g c =
+    let done = c.insert_at-in-Some-short_home in
     found_then g.K.PartialEq.eq g.row.TYPE c.hash-hash.result (g.H.KeyHash.hash_of c.args.self.now.hasher c.args.key)
-    (g.G.Generation.keeps c.args.generation.now) c.args.key c.args.value c.args.self.now c.args.self.now c.insert_at-in-Some-short_home.new.self
-    Current c.in-Some-short_home.index c.insert_at-in-Some-short_home.result c.hash-hash.ensures (c.in-Some-short_home.ensures c.args.rule) c.insert_at-in-Some-short_home.ensures.answer
-    c.insert_at-in-Some-short_home.ensures.put c.insert_at-in-Some-short_home.ensures.unchanged
+    (g.G.Generation.keeps c.args.generation.now) c.args.key c.args.value c.args.self.now c.args.self.now done.new.self
+    Current c.in-Some-short_home.index done.result c.hash-hash.ensures (c.in-Some-short_home.ensures c.args.rule) done.ensures.answer
+    done.ensures.put done.ensures.unchanged
 
 pub insert_at-requires-in-Some-short_home : goal.insert_at-requires-in-Some-short_home
 insert_at-requires-in-Some-short_home g c =

@@ -17,10 +17,11 @@ upsert_at-requires g c =
 
 pub returns-in-Some-short_home-clause-arrays : goal.returns-in-Some-short_home-clause-arrays
 returns-in-Some-short_home-clause-arrays g c =
-    let (left, put, is) = c.upsert_at-in-Some-short_home.ensures.bucket in
+    let done = c.upsert_at-in-Some-short_home in
+    let (left, put, is) = done.ensures.bucket in
     found_upserted g.K.PartialEq.eq g.row.TYPE c.hash-hash.result (g.H.KeyHash.hash_of c.args.self.now.hasher c.args.key)
-    (g.G.Generation.keeps c.args.generation.now) c.args.key c.args.value c.args.self.now c.args.self.now c.upsert_at-in-Some-short_home.new.self
-    Current c.in-Some-short_home.index c.upsert_at-in-Some-short_home.result left c.hash-hash.ensures (c.in-Some-short_home.ensures c.args.rule) put is
+    (g.G.Generation.keeps c.args.generation.now) c.args.key c.args.value c.args.self.now c.args.self.now done.new.self
+    Current c.in-Some-short_home.index done.result left c.hash-hash.ensures (c.in-Some-short_home.ensures c.args.rule) put is
 
 pub upsert_at-requires-in-Some-short_home : goal.upsert_at-requires-in-Some-short_home
 upsert_at-requires-in-Some-short_home g c =
