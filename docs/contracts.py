@@ -1,20 +1,19 @@
 #!/usr/bin/env python3
-"""Makes the second part of docs/contracts-of-the-table.md from the sources: which clauses each public
-call of bucket_slots and bucket_table has.
+"""Prints the public calls of bucket_slots and bucket_table, each with the labels of its clauses.
 
-Called as `python3 docs/contracts.py` it writes the page anew below its mark. What stands above the
-mark is written by hand, and stays. With `--check` it writes nothing: status 1 says that the page isn't
-what the sources give.
+Below each file is a line for each call: the labels of what it ensures, and in brackets those of what it
+requires. A star is a clause without a label. A call with nothing behind its name has one clause, without
+a label.
+
+Called as `python3 docs/contracts.py [REPOSITORY]`, so that `diff` can compare two revisions. Without an
+argument it reads the repository that it is in.
 """
 
 import pathlib
 import re
 import sys
 
-ROOT = pathlib.Path(__file__).resolve().parent.parent
-PAGE = ROOT / "docs" / "contracts-of-the-table.md"
 CRATES = ["bucket_slots", "bucket_table"]
-MARK = "<!-- What follows is made by docs/contracts.py. -->\n"
 
 FUNCTION = re.compile(r"(\s*)(pub(?:\([^)]*\))? )?(?:const )?fn (\w+)")
 CLAUSE = re.compile(r"\s*(requires|ensures)\*?\s+(?:(\w+)\s+)?\{")
@@ -46,7 +45,7 @@ def public_names(texts):
 def owner_of(line):
     """The type or trait of an `impl` or a `trait` line, and whether all its functions are public.
 
-    Those of a trait are. Those of an `impl` of a trait are told where the trait is.
+    Those of a trait are. Those of an `impl` of a trait are listed with the trait.
     """
     found = OWNER.match(line)
     if not found:
@@ -94,47 +93,31 @@ def labels(clauses, wanted):
 
 
 def row(call):
-    """A call's line: its clauses, and in brackets the conditions that it asks of its caller.
-
-    A single clause without a label isn't told.
-    """
+    """The line of a call."""
     owner, _, name, clauses = call
     title = f"{owner}::{name}" if owner else name
     if clauses == [("ensures", None)]:
         return f"  {title}"
-    asked = labels(clauses, "requires")
-    return f"  {title}: {labels(clauses, 'ensures')}" + (f" [{asked}]" if asked else "")
-
-
-def made():
-    """The part of the page that the sources give."""
-    parts = []
-    for crate in CRATES:
-        source = ROOT / "crates" / crate / "src"
-        texts = {module_of(source, file): file.read_text() for file in sorted(source.rglob("*.rt"))}
-        public = public_names(texts)
-        parts.append(f"\n## `{crate}`\n\n```text\n")
-        for module, text in texts.items():
-            calls = [call for call in list(calls_of(text)) if call[3]]
-            rows = [row(call) for call in calls if (call[0] if call[1] else call[2]) in public]
-            if rows:
-                parts.append("\n".join([f"{'/'.join(module) or 'lib'}.rt", *rows]) + "\n")
-        parts.append("```\n")
-    return "".join(parts)
+    required = labels(clauses, "requires")
+    return f"  {title}: {labels(clauses, 'ensures')}" + (f" [{required}]" if required else "")
 
 
 def main(arguments):
-    if arguments not in ([], ["--check"]):
-        sys.exit("usage: docs/contracts.py [--check]")
-    page = PAGE.read_text()
-    head, mark, below = page.partition(MARK)
-    if not mark:
-        sys.exit(f"{PAGE.name}: no line {MARK.strip()}")
-    wanted = made()
-    if not arguments:
-        PAGE.write_text(head + mark + wanted)
-    elif below != wanted:
-        sys.exit(f"{PAGE.name} isn't what the sources give: `python3 docs/contracts.py` makes it anew")
+    if len(arguments) > 1:
+        sys.exit("usage: docs/contracts.py [REPOSITORY]")
+    root = pathlib.Path(arguments[0] if arguments else pathlib.Path(__file__).resolve().parent.parent)
+    for crate in CRATES:
+        source = root / "crates" / crate / "src"
+        texts = {module_of(source, file): file.read_text() for file in sorted(source.rglob("*.rt"))}
+        if not texts:
+            sys.exit(f"{source}: no sources")
+        public = public_names(texts)
+        for module, text in texts.items():
+            # A call gets its clauses after it is yielded.
+            calls = [call for call in list(calls_of(text)) if call[3]]
+            rows = [row(call) for call in calls if (call[0] if call[1] else call[2]) in public]
+            if rows:
+                print("\n".join([f"{crate}/src/{'/'.join(module) or 'lib'}.rt", *rows]))
 
 
 if __name__ == "__main__":

@@ -1,7 +1,7 @@
 #!/usr/bin/env bash
 # Compares the documents with the repository: links, anchors, paths and names of definitions exist,
-# the contracts' page is what the sources give, the comparison with other containers names calls that
-# there are, and all documents have at most so many words.
+# the comparison with other containers names calls that there are, and all documents have at most so
+# many words.
 #
 # Needs no proof.
 #
@@ -9,6 +9,5 @@
 set -u
 source "$(dirname "${BASH_SOURCE[0]}")/lib/running.sh"
 
-python3 -B "$root/docs/contracts.py" --check || exit
 python3 -B "$root/docs/parity.py" || exit
 python3 -B "$root/trials/lib/document_links.py" "$root"
