@@ -1,4 +1,4 @@
--- Lists of equally long parts, and parts of which some buckets are made.
+-- Lists of equally long parts, and parts of which some buckets are initialized.
 use Rattle.bucket_slots.proofs.Words.{All, All-head, All-tail, AreParts, Bool, BucketView, IsLengthFor, List, [], add-mul, ap, append-nil}
 use Rattle.bucket_slots.proofs.Words.{append_assoc, arith, cases_lt, div-add-mod, div_below, drop, empty_bucket, false, flat_map-append, le-mul_of_pos_right}
 use Rattle.bucket_slots.proofs.Words.{flattened, get_or, inl, inr, length, length-append, length-set, length-take-le, mod-lt, mul_comm}
@@ -10,14 +10,14 @@ use Rattle.std.proofs.lemmas.List.Elements.{All-get_or, All-replicate, All-same,
 use Rattle.bucket_slots.specs.ArrayView.{IsNewArray}
 use Rattle.bucket_slots.specs.Layout.ArrayParts.{AreBuckets, AreFew, buckets_of}
 
--- where n items fit in memory together, one does
+-- if n items fit in memory together, one does
 pub one_fits : (n s : ℕ) → 0 < n → n * s < 2 ^ 63 → s < 2 ^ 63
 one_fits n s some all =
     let least : s ≤ n * s = subst (λ (k : ℕ). s ≤ k) (mul_comm s n) (le-mul_of_pos_right s some) in
     omega (arith, least, all)
 
 module _ {A : Type 0} where
-  -- each element from a number on is one value, where that element is and each behind it
+  -- if an element and all after it are one value, so are all elements from its index on
   pub from_one_less : (xs : List A) (x d : A) (left : ℕ) → get_or xs left d ≡ x
       → ((i : ℕ) → suc left ≤ i → i < length xs → get_or xs i d ≡ x) → (i : ℕ) → left ≤ i → i < length xs → get_or xs i d ≡ x
   from_one_less xs x d left here behind i from below = elim (cases_lt left i) [
@@ -39,7 +39,7 @@ module _ {A : Type 0} where
       omega (arith, length-append row (flattened rows), rest, here, add-mul 1 (length rows) m, one-mul m)
 
   module _ (rows : List (List A)) (m p o : ℕ) (long : All (λ row. length row ≡ m) rows) (within : p < length rows) (inside : o < m) where
-    -- the elements of the rows in front of one and of those behind it
+    -- the elements of the rows before one and of those after it
     abbrev pub front : List A
     front = flattened (take p rows)
 
@@ -81,13 +81,13 @@ abbrev Buckets : Type 0 → Type 0 → Type 0
 Buckets K V = List (BucketView K V)
 
 module _ {K V : Type 0} where
-  -- a bucket that is made is read
+  -- a bucket that is initialized is read
   pub get_or-made : (made : Buckets K V) (len i : ℕ) (released : Bool) → i < length made
       → get_or (with_unmade made len released) i empty_bucket ≡ get_or made i empty_bucket
   get_or-made made len i released there =
       get_or_append_left made (replicate (len - length made) (unmade_bucket released)) empty_bucket i there
 
-  -- a bucket is read of a part, whose buckets are the made ones and more
+  -- a bucket of a part is read, whose buckets are the initialized ones and more
   pub part_read : (made part : Buckets K V) (len i : ℕ) (released : Bool) (bucket : BucketView K V) → with_unmade made len released ≡ part
       → i < length made → bucket ≡ get_or made i bucket → bucket ≡ get_or part i empty_bucket
   part_read made part len i released bucket same there is =
@@ -100,7 +100,7 @@ module _ {K V : Type 0} where
       rw (← same)
       (length-append made behind ∙ ap (λ n. length made + n) (length-replicate (len - length made) (unmade_bucket released)))
 
-  -- and one that isn't made
+  -- and one that isn't initialized
   pub part_unmade : (made part : Buckets K V) (len i : ℕ) (released : Bool) → with_unmade made len released ≡ part → length made ≤ i
       → i < length part → unmade_bucket released ≡ get_or part i empty_bucket
   part_unmade made part len i released same past below =
@@ -110,7 +110,7 @@ module _ {K V : Type 0} where
       rw (← same) (sym (get_or-append_right made behind (length made) i empty_bucket refl past
       ∙ get_or-replicate (len - length made) (i - length made) spare empty_bucket (omega arith)))
 
-  -- one more bucket is made
+  -- one more bucket is initialized
   pub made_one : (made : Buckets K V) (len : ℕ) (released : Bool) → length made < len
       → with_unmade (made ++ unmade_bucket released ∷ []) len released ≡ with_unmade made len released
   made_one made len released less =
@@ -128,7 +128,7 @@ module _ {K V : Type 0} where
       ap (λ n. set made i bucket ++ replicate (len - n) (unmade_bucket released)) (length-set made i bucket)
       ∙ sym (set-append_left made (replicate (len - length made) (unmade_bucket released)) i bucket below)
 
-  -- a part whose buckets are all made and killed reads as one that is released
+  -- a part whose buckets are all initialized and killed reads as one that is released
   pub released_part : (made new : Buckets K V) (len new_len : ℕ) (released : Bool) → length made ≡ len
       → made ≡ replicate (length made) (unmade_bucket true) → new ≡ [] → new_len ≡ len
       → with_unmade new new_len true ≡ with_unmade made len released
@@ -138,11 +138,11 @@ module _ {K V : Type 0} where
       ap (λ l. with_unmade l new_len true) none ∙ ap (λ n. replicate n (unmade_bucket true)) whole ∙ sym killed ∙ sym (append-nil made)
       ∙ ap (λ n. made ++ replicate n (unmade_bucket released)) left
 
-  -- the parts with another bucket in one of them
+  -- the parts with one bucket of one of them replaced
   abbrev parts_with : List (Buckets K V) → ℕ → ℕ → BucketView K V → List (Buckets K V)
   parts_with parts part offset bucket = set parts part (set (part_at parts part) offset bucket)
 
-  -- the place of the bucket with an index: a read there is one of the array, and so is a write
+  -- the place of the bucket at an index: reading or writing there is reading or writing that bucket of the array
   pub record IsPlace (parts : List (Buckets K V)) (spare : Buckets K V) (len bits part offset index : ℕ)
       (buckets : Buckets K V) : Type 0 where
     pub within : part < length parts
@@ -185,7 +185,7 @@ module _ {K V : Type 0} where
         → part ≡ index / 2 ^ bits → offset ≡ index % 2 ^ bits → IsPlace parts spare len bits part offset index buckets
     place_is part offset index buckets is below part_is offset_is = rw (part_is, offset_is, ← is) (place_by_index index (rw is below))
 
-  -- where there are parts, the buckets are theirs
+  -- if there are parts, the buckets are theirs
   pub of_parts : (parts : List (Buckets K V)) (beside : Buckets K V) → 0 < length parts → buckets_of parts beside ≡ flattened parts
   of_parts [] beside some = absurd (omega (arith, some))
   of_parts (part ∷ parts) beside some = refl
@@ -210,7 +210,7 @@ module _ {K V : Type 0} where
         → 4 < len
     is_long all is many = omega (arith, len_of all, ap length is, many)
 
-    -- so has one whose parts are longer than one bucket
+    -- an array whose parts are longer than one bucket has more than four buckets
     pub bits_long : AreBuckets parts beside len bits → 0 < bits → 4 < len
     bits_long (inl few) some = absurd (omega (arith, few.no_bits, some))
     bits_long (inr kept) some = kept.1
@@ -220,7 +220,7 @@ module _ {K V : Type 0} where
     some_beside (inl few) = omega (arith, few.some, few.len_is)
     some_beside (inr kept) = rw kept.0.spare_is (omega arith)
 
-    -- an array of more buckets than four has parts
+    -- an array of more than four buckets has parts
     pub long_parts : AreBuckets parts beside len bits → 4 < len → AreParts parts beside len bits
     long_parts (inl few) many = absurd (omega (arith, few.few, many))
     long_parts (inr kept) many = kept.0
@@ -230,7 +230,7 @@ module _ {K V : Type 0} where
     few_parts (inl few) most = few
     few_parts (inr kept) most = absurd (omega (arith, kept.1, most))
 
-    -- another bucket in a short array
+    -- a bucket of a short array is replaced
     pub few_with : (few : AreFew parts beside len bits) (index : ℕ) (bucket : BucketView K V)
         → AreFew parts (set beside index bucket) len bits
     few_with few index bucket = record {
@@ -241,7 +241,7 @@ module _ {K V : Type 0} where
       no_bits = few.no_bits;
     }
 
-  -- a run of as many buckets in a short array
+  -- a run of buckets of a short array is replaced by as many
   pub few_spread : (parts : List (Buckets K V)) (beside left : Buckets K V) (len bits : ℕ) → AreFew parts beside len bits
       → length left ≡ length beside → AreFew parts left len bits
   few_spread parts beside left len bits few same = record {
@@ -252,7 +252,7 @@ module _ {K V : Type 0} where
     no_bits = few.no_bits;
   }
 
-  -- the place of the bucket with an index in an array that isn't short: a read there is one of the array, and so is a write
+  -- the place of the bucket at an index in an array that isn't short: reading or writing there is reading or writing that bucket
   pub record IsLongPlace (parts : List (Buckets K V)) (beside : Buckets K V) (len bits part offset index : ℕ)
       (buckets : Buckets K V) : Type 0 where
     pub within : part < length parts
@@ -277,7 +277,7 @@ module _ {K V : Type 0} where
           kept = λ bucket. inr (place.kept bucket, many);
         }
 
-  -- as many empty buckets as a capacity asks for are a new array
+  -- the number of empty buckets that a capacity needs are a new array
   pub new_array : (capacity len : ℕ) (buckets : Buckets K V) → IsLengthFor capacity len → buckets ≡ replicate len empty_bucket
       → IsNewArray capacity buckets
   new_array capacity len buckets fits is =
@@ -287,7 +287,7 @@ module _ {K V : Type 0} where
         empty = is ∙ ap (λ n. replicate n empty_bucket) (sym long);
       }
 
-  -- buckets as they are made
+  -- buckets as they are allocated
   module _ (parts : List (Buckets K V)) (count part_len bits len : ℕ) (long : part_len ≡ 2 ^ bits) (whole : len ≡ count * 2 ^ bits)
       (is : parts ≡ replicate count (replicate part_len empty_bucket)) where
     pub new_view : flattened parts ≡ replicate len empty_bucket

@@ -1,4 +1,4 @@
--- A function that is lent the value of each live slot of a row, by the mask of those that are left.
+-- A function that is lent the value of each live slot of a row, by the mask of the remaining ones.
 use Rattle.bucket_slots.proofs.Words.{BucketView, CACHE, IsBucket, flattened, is_marked, marked_len, sum_by-append, ◌≢◌}
 use Rattle.bucket_slots.proofs.Words.{Bool, Bor, IsLowest, IsMaskOf, List, MutBor, SetsBit, Slot, Some, [], ap, append-nil, append_assoc}
 use Rattle.bucket_slots.proofs.Words.{arith, bit_at-zero}
@@ -15,7 +15,7 @@ use Rattle.bucket_slots.specs.OwnWalks.{NamesFrom}
 use Rattle.bucket_slots.proofs.LiveMasks.{lowest_ahead, named_live, names_all, names_next}
 use Rattle.bucket_slots.proofs.Masks.{bit_is_not, within}
 
--- a slot with another value is live as before
+-- a slot with another value is live if it was live before
 pub revalued_live : {K V : Type 0} (slots : List (Slot K V)) (pos : ℕ) (value : V) → is_live (slot_at slots pos) ≡ true
     → is_live (slot_at (row_with_value slots pos value) pos) ≡ true
 revalued_live slots pos value alive =
@@ -36,7 +36,7 @@ module _ {S K V : Type 0} (step : S → Bor K → MutBor V → Bool → MutBor V
   asked_len first last [] left (none, same) = ap length none
   asked_len first last (x ∷ xs) left (mid, here, rest, asked, is, later) = ap length is ∙ ap suc (asked_len mid last xs rest later)
 
-  -- nothing is asked for a slot that isn't live
+  -- the function isn't called for a slot that isn't live
   not_asked : (state : S) (slot : Slot K V) → is_live slot ≡ false → AsksSlot step state slot slot state
   not_asked state free dead = (refl, refl)
   not_asked state (live pair byte) dead = cc
@@ -59,7 +59,7 @@ module _ {S K V : Type 0} (step : S → Bor K → MutBor V → Bool → MutBor V
       (own, before, after, false, same, call, refl)
   dropped first last (marked pair byte) own before after read call = cc
 
-  -- the slots up to a position were asked for
+  -- the function was called for the slots up to a position
   pub record IsAskedTo (first : S) (old : List (Slot K V)) (state : S) (now : List (Slot K V)) (from : ℕ) : Type 0 where
     pub front : List (Slot K V)
     pub inside : from ≤ length old
@@ -88,7 +88,7 @@ module _ {S K V : Type 0} (step : S → Bor K → MutBor V → Bool → MutBor V
         now_is = put ∙ sym (append_assoc so_far.front (slot ∷ []) (drop (from + 1) old));
       }
 
-  -- the slot there is as it was
+  -- the slot there is unchanged
   pub still_there : (first state : S) (old now : List (Slot K V)) (from : ℕ) → IsAskedTo first old state now from → from < length old
       → slot_at now from ≡ slot_at old from
   still_there first state old now from so_far below =
@@ -99,7 +99,7 @@ module _ {S K V : Type 0} (step : S → Bor K → MutBor V → Bool → MutBor V
       ∙ get_or-append_right so_far.front (slot_at old from ∷ drop (from + 1) old) from from free front_len (omega arith)
       ∙ ap (λ k. slot_at (slot_at old from ∷ drop (from + 1) old) k) left
 
-  -- and some that aren't live
+  -- and some that aren't live are passed
   passed : (first state : S) (old now : List (Slot K V)) (from count : ℕ) → IsAskedTo first old state now from → from + count ≤ length old
       → ((i : ℕ) → from ≤ i → i < from + count → is_live (slot_at old i) ≡ false) → IsAskedTo first old state now (from + count)
   passed first state old now from zero so_far below dead =
@@ -115,7 +115,7 @@ module _ {S K V : Type 0} (step : S → Bor K → MutBor V → Bool → MutBor V
       let more = one_more first state state old now at (slot_at old at) rest (omega (arith, below)) here in
       subst (IsAskedTo first old state now) next (subst (λ l. IsAskedTo first old state l (at + 1)) stays more)
 
-  -- those whose bits are left have still to come
+  -- the function has yet to be called for the slots whose bits are left
   pub record IsAsking (first : S) (old : List (Slot K V)) (state : S) (now : List (Slot K V)) (left : ℕ) : Type 0 where
     pub from : ℕ
     pub names : NamesFrom old left from
@@ -153,7 +153,7 @@ module _ {S K V : Type 0} (step : S → Bor K → MutBor V → Bool → MutBor V
             (subst (λ s. AsksSlot step state s slot next) (still_there first state old now pos upto below) asked);
       }
 
-  -- and none
+  -- none is left
   pub asking_done : (first state : S) (old now : List (Slot K V)) → IsAsking first old state now 0 → AsksSlots step first old now state
   asking_done first state old now asking =
       let long : ℕ = length old - asking.from in
@@ -176,7 +176,7 @@ module _ {S K V : Type 0} (step : S → Bor K → MutBor V → Bool → MutBor V
       by_answer false = refl
   mark_stays first last (marked pair byte) here (is, same) = rw is refl
 
-  -- as many slots are marked
+  -- the number of tombstones is the same
   asked_marks : (first last : S) (slots left : List (Slot K V)) → AsksSlots step first slots left last
       → marked_len left ≡ marked_len slots
   asked_marks first last [] left (none, same) = rw none refl
@@ -185,7 +185,7 @@ module _ {S K V : Type 0} (step : S → Bor K → MutBor V → Bool → MutBor V
       let mark = ap tally (mark_stays first mid slot here asked) in
       rw is (omega (arith, asked_marks mid last slots rest later, sum_by-cons marks here rest, sum_by-cons marks slot slots, mark))
 
-  -- the bucket's law
+  -- what holds of the bucket
   pub bucket_asked : (kind : ℕ) (s : BucketView K V) (len : ℕ) (own : List (Slot K V)) (first last : S) → kind ≢ CACHE
       → IsBucket kind s len → AsksSlots step first s.own own last → IsBucket kind (record s { own = own }) len
   bucket_asked kind s len own first last other h asked =

@@ -10,7 +10,7 @@ pub link_with_next-rows : {T A : Type 0} (link : Option (Box (Block T) A)) (rows
 link_with_next-rows None rows some = absurd (omega (arith, some))
 link_with_next-rows (Some block) rows some = refl
 
--- some rows, one, and some more, each behind those before
+-- some rows, one row, and some more, each after those before
 pub take-walked : {T : Type 0} (rows rest : List T) (count half : ℕ) → half < count
     → take half rows ++ (take 1 (drop half rows) ++ (take (count - half - 1) (drop 1 (drop half rows)) ++ rest)) ≡ take count rows ++ rest
 take-walked rows rest count half below =
@@ -31,7 +31,7 @@ pub link_with_row-rows : {T A : Type 0} (link : Option (Box (Block T) A)) (row :
 link_with_row-rows None row some = absurd (omega (arith, some))
 link_with_row-rows (Some block) row some = refl
 
--- what stands first behind some rows is the next one
+-- what is first after some rows is the next one
 pub row_behind : {T : Type 0} (rows behind : List T) (row : T) (index : ℕ) → drop index rows ≡ row ∷ behind → row ≡ get_or rows index row
 row_behind rows behind row index here =
     let there : index + 0 ≡ index = omega arith in
@@ -44,17 +44,17 @@ drop_behind rows behind row index here = ap (drop 1) (sym here) ∙ drop-drop 1 
 pub drop_past_end : {T : Type 0} (rows : List T) (index count : ℕ) → index ≤ count → drop index rows ≡ [] → drop count rows ≡ []
 drop_past_end rows index count later here = drop_all count rows (omega (arith, length-drop index rows, ap length here))
 
--- a link that holds a block has its row in front
+-- a link that holds a block has its row first
 pub length-some : {T A : Type 0} (rows : List T) (link : Option (Box (Block T) A)) (block : Box (Block T) A)
     → rows_of link ≡ rows → link ≡ Some block → rows ≡ block.value.row ∷ block.value.next
 length-some rows link block same some = sym same ∙ ap rows_of some
 
--- the row that is read or lent is the one at its number
+-- the row that is read or lent is the one at its index
 pub row_read : {T : Type 0} (rows now : List (List T)) (index : ℕ) (row : List T) → rows ≡ now → index < length now
     → row ≡ get_or rows index row → row ≡ get_or now index []
 row_read rows now index row same within is = rw (← same) (get_or_read rows index row (rw same within) is [])
 
--- behind a link's first block are fewer rows
+-- there are fewer rows after a link's first block
 pub fewer_behind : {T A : Type 0} (rows behind : List T) (link : Option (Box (Block T) A)) (block : Box (Block T) A)
     → rows_of link ≡ rows → link ≡ Some block → behind ≡ block.value.next → suc (length behind) ≤ length rows
 fewer_behind rows behind link block same some rest = omega (arith, ap length (length-some rows link block same some), ap length rest)

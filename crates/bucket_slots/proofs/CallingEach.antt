@@ -1,10 +1,10 @@
--- A function called with each pair, one after another.
+-- Calls of a function with each pair, one after another.
 use Rattle.bucket_slots.proofs.Words.{Bor, BucketView, CallsEach, List, MovesToNext, Place, Some, [], ap, append-nil, append_assoc}
 use Rattle.bucket_slots.proofs.Words.{arith, drop_all, filter_map-append, flattened, length, live_pairs}
 use Rattle.bucket_slots.proofs.Words.{live_pair, null_place, pairs_ahead, pairs_in, refl, slot_in, Slot, subst, sym, ◌++◌, ◌∙◌, ◌∷◌, ◌≡◌}
 
 module _ {S K V : Type 0} (step : S → Bor K → Bor V → S → Type 0) where
-  -- so far it was called with each of some pairs, and these and what is left are all
+  -- it was called with some pairs so far, and these and the remaining ones are all
   pub record IsAmid (first : S) (all : List (K × V)) (now : S) (rest : List (K × V)) : Type 0 where
     pub done : List (K × V)
     pub parts : all ≡ done ++ rest
@@ -44,7 +44,7 @@ module _ {S K V : Type 0} (step : S → Bor K → Bor V → S → Type 0) where
       one_more first now next all (pairs_ahead bucket at) (pairs_ahead bucket to) own value amid
       (moves.ahead ∙ ap (λ p. p ∷ pairs_ahead bucket to) same) call
 
-  -- the own slots' pairs are called, and those of the chain are ahead
+  -- it was called with the own slots' pairs, and those of the chain are ahead
   pub own_called : (first now : S) (bucket : BucketView K V) (at : Place) (own : List (Slot K V)) → own ≡ bucket.own → length own ≡ 32
       → at ≡ record { block = 0; pos = 31 } → CallsEach step first (live_pairs own) now
       → IsAmid first (pairs_in bucket) now (pairs_ahead bucket at)
@@ -55,7 +55,7 @@ module _ {S K V : Type 0} (step : S → Bor K → Bor V → S → Type 0) where
     calls = calls;
   }
 
-  -- and where there is no chain these are all
+  -- and if there is no chain, these are all
   pub own_alone : (first now : S) (bucket : BucketView K V) (own : List (Slot K V)) → own ≡ bucket.own → bucket.chain ≡ []
       → CallsEach step first (live_pairs own) now → CallsEach step first (pairs_in bucket) now
   own_alone first now bucket own is none calls = rw (none, append-nil bucket.own, ← is) calls

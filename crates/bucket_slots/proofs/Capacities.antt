@@ -1,4 +1,4 @@
--- There is one optimal capacity, and what an array has for a capacity fits its bounds.
+-- There is one optimal capacity, and the length of an array for a capacity is in its bounds.
 use Rattle.bucket_slots.proofs.Words.{IsGrownCapacity, IsLeastDoubling, IsLengthFor, IsOptimalCapacity, IsPowerOfTwo, arith, cases_lt, max}
 use Rattle.bucket_slots.proofs.Words.{min, subst, sym, ℕ, ⊎_elim, ◌*◌, ◌/◌, ◌<◌, ◌∙◌, ◌≡◌, ◌≤◌}
 use Rattle.bucket_slots.proofs.PowersOfTwo.{least_is_one}
@@ -57,7 +57,7 @@ optimal_fits capacity entries minimum maximum optimal power large bounded within
     (λ high few. (is.too_empty high few).least maximum power (omega arith))
     (λ high not_full enough. omega (arith, is.kept high not_full enough))
 
--- an array for a capacity has no more slots than a maximum that the capacity is within
+-- an array for a capacity has at most as many slots as a maximum that the capacity is within
 pub len_fits : (capacity maximum len : ℕ) → IsPowerOfTwo maximum → 64 ≤ maximum → capacity ≤ maximum → IsLengthFor capacity len
     → 32 * len ≤ maximum
 len_fits capacity maximum len power large fits (least, is_least, len_is) =

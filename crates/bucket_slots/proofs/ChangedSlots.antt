@@ -1,4 +1,4 @@
--- What the fields of a bucket keep where one of its slots changes.
+-- What holds of the fields of a bucket when one of its slots changes.
 use Rattle.bucket_slots.proofs.Words.{All, All-filter, Bool, BucketView, CACHE, INDEX, IsBucket, IsTrue, List, Place, Slot, [], ap}
 use Rattle.bucket_slots.proofs.Words.{arith, block_at, cases_eq, false, filter_passes, flattened, free, get_or, get_or-set_other}
 use Rattle.bucket_slots.proofs.Words.{get_or-set_same, inl, inr, is_live, is_marked, length, length-set, live, live_pairs, nat_tests, not}
@@ -11,17 +11,17 @@ use Rattle.bucket_slots.proofs.Pointing.{inside_row}
 apart : (x pos : ℕ) → not (x == pos) ≡ true → x ≢ pos
 apart x pos passed same = let e : (x == pos) ≡ true = rw same (grind (arith, nat_tests)) in cc
 
--- a live slot counts where it is one of the chain
+-- a live slot counts if it is in the chain
 abbrev chained_tally : ℕ → Bool → ℕ
 chained_tally zero alive = 0
 chained_tally (suc i) alive = tally alive
 
--- another slot counts for nothing
+-- another slot doesn't count
 dead : (block : ℕ) → chained_tally block false ≡ 0
 dead zero = refl
 dead (suc i) = refl
 
--- the stored number once a slot of a block is filled, and once one is live no more
+-- the stored number after a slot of a block is filled, and after one is no longer live
 abbrev pub chained_with : ℕ → ℕ → ℕ
 chained_with zero chained = chained
 chained_with (suc i) chained = chained + 1
@@ -39,7 +39,7 @@ module _ {K V : Type 0} where
   abbrev AreLive : List (Slot K V) → List ℕ → Type 0
   AreLive own listed = All (λ slot. IsTrue (is_live (slot_at own slot))) listed
 
-  -- a bucket with another slot and another recency list
+  -- a bucket with one slot and the LRU list replaced
   abbrev pub slots_changed : BucketView K V → ℕ → ℕ → Slot K V → List ℕ → BucketView K V
   slots_changed s block pos x listed =
       record { own = (with_slot_at s block pos x).own; chain = (with_slot_at s block pos x).chain; listed = listed; killed = s.killed }
@@ -55,7 +55,7 @@ module _ {K V : Type 0} where
     | inr other ↦ rw (get_or-set_other own pos i x free other) h
   ]
 
-  -- what stands there afterwards
+  -- the slots of a block after a slot changes
   pub block_at-with_slot : (s : BucketView K V) (block pos : ℕ) (x : Slot K V) → pos < length (block_at s block)
       → block_at (with_slot_at s block pos x) block ≡ set (block_at s block) pos x
   block_at-with_slot s zero pos x short = refl
@@ -67,13 +67,13 @@ module _ {K V : Type 0} where
       ap (λ row. slot_at row at.pos) (block_at-with_slot s at.block at.pos x short)
       ∙ get_or-set_same (block_at s at.block) at.pos x free short
 
-  -- where a slot is live afterwards, the listed ones stay live
+  -- if a slot is live afterwards, the listed ones stay live
   AreLive-changed : (s : BucketView K V) (block pos : ℕ) (x : Slot K V) → pos < length (block_at s block) → is_live x ≡ true
       → AreLive s.own s.listed → AreLive (with_slot_at s block pos x).own s.listed
   AreLive-changed s zero pos x short alive h k d below = still_live s.own pos (get_or s.listed k d) x short alive (h k d below)
   AreLive-changed s (suc i) pos x short alive h k d below = h k d below
 
-  -- and those but one do, whatever that one is
+  -- and all but one stay live, whatever that one becomes
   AreLive-without : (own : List (Slot K V)) (pos : ℕ) (x : Slot K V) (listed : List ℕ) → AreLive own listed
       → AreLive (set own pos x) (order_without listed pos)
   AreLive-without own pos x listed h k d below =
@@ -110,7 +110,7 @@ module _ {K V : Type 0} where
   pub live_inside : (slots : List (Slot K V)) (pos : ℕ) → is_live (slot_at slots pos) ≡ true → pos < length slots
   live_inside slots pos alive = inside_row slots pos (live_occupied (slot_at slots pos) alive).0
 
-  -- a live slot of block 0 is one of the own row; s is what the bucket t is made of
+  -- a live slot of block 0 is in the own row; s is what the bucket t consists of
   pub own_live : {kind chained : ℕ} (s t : BucketView K V) (p : Place) (pos : ℕ) → s ≡ t → p.block ≡ 0 → pos ≡ p.pos
       → IsBucket kind s chained → is_live (slot_in t p) ≡ true → (pos < 32) × (is_live (slot_at s.own pos) ≡ true)
   own_live s t p pos is own here kept alive =
@@ -123,13 +123,13 @@ module _ {K V : Type 0} where
       let lives = sum_by-rows_with (λ (y : Slot K V). tally (is_live y)) s.chain i pos free (live_inside (row_at s.chain i) pos alive) in
       omega (arith, h.counted, length-live_pairs (flattened s.chain), ap tally alive)
 
-  -- what it is once that one goes
+  -- what holds after a live slot is no longer live
   gone : (kind : ℕ) (s : BucketView K V) (chained block pos : ℕ) → IsBucket kind s chained → is_live (slot_at (block_at s block) pos) ≡ true
       → chained_without block chained + chained_tally block (is_live (slot_at (block_at s block) pos)) ≡ chained
   gone kind s chained zero pos h alive = omega arith
   gone kind s chained (suc i) pos h alive = omega (arith, some_live kind s chained i pos h alive, ap tally alive)
 
-  -- a pair is put into a free slot
+  -- a pair is placed in a free slot
   pub IsBucket-filled : (kind : ℕ) (s : BucketView K V) (chained block pos : ℕ) (pair : K × V) (byte : ℕ) → IsBucket kind s chained
       → pos < length (block_at s block) → slot_at (block_at s block) pos ≡ free
       → IsBucket kind (slots_changed s block pos (live pair byte) s.listed) (chained_with block chained)
@@ -153,7 +153,7 @@ module _ {K V : Type 0} where
   marked_is_dead free epoch = refl
   marked_is_dead slot epoch = refl
 
-  -- a live slot of an index is marked
+  -- a live slot of an index becomes a tombstone
   pub IsBucket-marked : (kind : ℕ) (s : BucketView K V) (chained block pos epoch : ℕ) → kind ≡ INDEX → IsBucket kind s chained
       → is_live (slot_at (block_at s block) pos) ≡ true
       → IsBucket kind (slots_changed s block pos (slot_marked epoch (slot_at (block_at s block) pos)) s.listed)

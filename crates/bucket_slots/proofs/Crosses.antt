@@ -1,4 +1,4 @@
--- Which buckets and arrays of them may cross threads: as their keys, values and LRU lists may.
+-- Buckets and arrays of buckets may cross threads if their keys, values and LRU lists may.
 use denote.RattleType.{RattleType}
 use denote.Param.Send.{IsSend, IsSync, sendable}
 use Rattle.std.specs.declared.default.Default as default

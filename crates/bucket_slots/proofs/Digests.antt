@@ -1,4 +1,4 @@
--- What digests say of buckets, and how it holds after a change.
+-- What digests state of buckets, and how it holds after a change.
 use Rattle.bucket_slots.proofs.Words.{BucketView, IsMaskOf, List, SetsBit, Slot, Some, [], ap, arith, bit_and, bit_at, bit_at_and, byte_of}
 use Rattle.bucket_slots.proofs.Words.{cases_eq, cond, empty_bucket, false, free, get_or, get_or-map, get_or-set_other}
 use Rattle.bucket_slots.proofs.Words.{get_or-set_same, has_byte, is_free, is_marked, IsBucketOf, INDEX, IsLowest, IsTrue, Place}
@@ -26,11 +26,11 @@ use Rattle.bucket_slots.proofs.Masks.{lowest_passes, IsLeft-first, ones-mask, po
 use Rattle.bucket_slots.proofs.Masks.{IsMaskOf-from, IsMaskOf-set, bit-mask, within}
 
 module _ {K V : Type 0} where
-  -- nothing is said of any bucket
+  -- all digests are stale
   pub AreDigests-none : (digests : DigestLists) (buckets : List (BucketView K V)) → KnowsNone 0 digests → AreDigests digests buckets
   AreDigests-none digests buckets none index said = absurd (said (none index (omega arith)))
 
-  -- one digest and its bucket change, and the digest says nothing or is the bucket's
+  -- one digest and its bucket change, and the digest is stale or that of the bucket
   pub AreDigests-set : (old new : DigestLists) (buckets : List (BucketView K V)) (index : ℕ) (bucket : BucketView K V)
       → AreDigests old buckets
       → index < length buckets → ChangesOne index old new → ((digest_at new index).live ≢ 2 ^ 32 - 1
@@ -48,7 +48,7 @@ module _ {K V : Type 0} where
         )
   ]
 
-  -- one digest is lost, and its bucket changes
+  -- one digest becomes stale, and its bucket changes
   pub AreDigests-lost : (old new : DigestLists) (buckets : List (BucketView K V)) (index : ℕ) (bucket : BucketView K V)
       → AreDigests old buckets
       → index < length buckets → ChangesOne index old new → IsLost (digest_at new index) → AreDigests new (set buckets index bucket)
@@ -98,7 +98,7 @@ module _ {K V : Type 0} where
     chainless = d.chainless;
   }
 
-  -- an own slot is left
+  -- an own slot is freed
   pub IsDigest-freed : (digest new : Digest) (bucket left : BucketView K V) (pos : ℕ) → IsDigest digest bucket
       → pos < 32 → SetsBit digest.live pos 0 new.live → new.bytes ≡ digest.bytes
       → left.own ≡ set bucket.own pos free → left.chain ≡ bucket.chain
@@ -124,7 +124,7 @@ module _ {K V : Type 0} where
   free_at (suc n) zero = refl
   free_at (suc n) (suc pos) = free_at n pos
 
-  -- a bucket with a live own slot is made
+  -- a bucket with a live own slot is initialized
   pub made_there : (made part : List (BucketView K V)) (len i : ℕ) (released : Bool) (pos : ℕ) → with_unmade made len released ≡ part
       → i < length part → is_live (slot_at (bucket_at part i).own pos) ≡ true → i < length made
   made_there made part len i released pos same below alive = elim (cases_lt i (length made)) [
@@ -155,7 +155,7 @@ module _ {K V : Type 0} where
         → IsArray (length (set buckets index bucket)) offset size × AreDigests new (set buckets index bucket)
     lost_at lost bucket = set_at bucket (λ said. absurd (said lost))
 
-  -- a bucket of an array changes, and what its digest says of it stays
+  -- a bucket of an array changes, and its digest stays true
   pub kept_at : (digests : DigestLists) (buckets : List (BucketView K V)) (index offset size : ℕ)
       → IsArray (length buckets) offset size × AreDigests digests buckets → index < length buckets → (bucket : BucketView K V)
       → ((digest : Digest) → IsDigest digest (bucket_at buckets index) → IsDigest digest bucket)
@@ -209,7 +209,7 @@ module _ {K V : Type 0} where
     chainless = d.chainless;
   }
 
-  -- nothing is said from an index on, and the buckets before it stay
+  -- all digests from an index on are stale, and the buckets before it stay
   pub AreDigests-front : (digests : DigestLists) (old new : List (BucketView K V)) (start : ℕ) → AreDigests digests old
       → KnowsNone start digests → length new ≡ length old
       → ((i : ℕ) → i < start → bucket_at new i ≡ bucket_at old i) → AreDigests digests new
@@ -218,7 +218,7 @@ module _ {K V : Type 0} where
     | inr past ↦ absurd (said (none i past))
   ]
 
-  -- one digest is written anew
+  -- one digest is stored anew
   pub AreDigests-settled : (old new : DigestLists) (buckets : List (BucketView K V)) (index : ℕ) (bucket : BucketView K V) (bits : ℕ)
       (bytes : List ℕ) → 4 < length buckets → AreDigests old buckets → ChangesOne index old new → Settles bits bytes (digest_at new index)
       → (bits ≢ 2 ^ 32 - 1 → IsDigest (record { live = bits; bytes = bytes }) bucket) → bucket ≡ bucket_at buckets index
@@ -235,7 +235,7 @@ module _ {K V : Type 0} where
       at_index (inr e) known =
           subst (λ (d : Digest). IsDigest d bucket) (sym e) (is (λ lost. known (ap (λ (d : Digest). d.live) e ∙ lost)))
 
-  -- where no live own slot has the byte none is wanted
+  -- if no live own slot has the byte, none matches
   pub none_by_mask : (wants : K → Bool) (byte : ℕ) (bucket : BucketView K V) → IsMaskOf (has_byte byte) bucket.own 0 → bucket.chain ≡ []
       → place_wanted wants byte bucket ≡ None
   none_by_mask wants byte bucket mask none =
@@ -250,7 +250,7 @@ module _ {K V : Type 0} where
   clear_bit (live pair byte) none = (λ e. refl, λ e. cc)
   clear_bit (marked pair byte) none = absurd (omega arith)
 
-  -- the lowest own slot that isn't live is the first free one, where no slot has a mark
+  -- in a bucket without tombstones the lowest own slot that isn't live is the first free one
   pub free_by_mask : (kind : ℕ) (b : BucketView K V) (bits pos : ℕ) → IsBucketOf kind b → kind ≢ INDEX → bits < 2 ^ 32
       → IsMaskOf is_live b.own bits → IsLowest (2 ^ 32 - 1 - bits) pos → position is_free b.own ≡ Some pos
   free_by_mask kind b bits pos laws other fits mask low =
@@ -279,12 +279,12 @@ module _ {K V : Type 0} where
       bit_there true e = absurd (omega arith)
       bit_there false e = refl
 
-  -- an own slot that is left
+  -- an own slot that is vacated
   pub without_own : (b : BucketView K V) (at : Place) → at.block ≡ 0
       → ((slots_without b at).own ≡ set b.own at.pos free) × ((slots_without b at).chain ≡ b.chain)
   without_own b at e = rw e (refl, refl)
 
-  -- where a bit of a byte's mask is set, that slot is live
+  -- if a bit of a byte's mask is set, that slot is live
   pub some_in_mask : (byte : ℕ) (own : List (Slot K V)) (bits : ℕ) → IsMaskOf (has_byte byte) own bits → bits < 2 ^ 32 → bits ≢ 0
       → (pos : ℕ) × (is_live (slot_at own pos) ≡ true)
   some_in_mask byte own bits mask fits some =
@@ -292,7 +292,7 @@ module _ {K V : Type 0} where
       let pos = trailing_zeros w32 bits in
       (pos, candidate_live (slot_at own pos) byte (lowest_passes (has_byte byte) own bits pos free mask low refl))
 
-  -- a pair stands in the first free slot, an own one
+  -- a pair is placed in the first free slot, an own one
   pub IsDigest-put : (digest new : Digest) (b : BucketView K V) (pos : ℕ) (pair : K × V) (byte : ℕ) → IsDigest digest b
       → position is_free b.own ≡ Some pos → pos < 32 → SetsBit digest.live pos 1 new.live → new.bytes ≡ set digest.bytes pos byte
       → IsDigest new (slots_with b pair byte)
@@ -300,12 +300,12 @@ module _ {K V : Type 0} where
       subst (λ (x : BucketView K V). IsDigest new x) (sym (put_in_own b pos pair byte place))
       (IsDigest-filled digest new b pos pair byte d below bits bytes)
 
-  -- an insertion looks at no mark but in an index
+  -- only in an index an insertion looks for tombstones
   pub after_put : (kind : ℕ) (keeps : ℕ → Bool) (b : BucketView K V) (pair : K × V) (byte : ℕ) → kind ≢ INDEX
       → slots_after_insertion kind keeps b pair byte ≡ slots_with b pair byte
   after_put kind keeps b pair byte other = let e : (kind == INDEX) ≡ false = ne_eqb kind INDEX other in rw e refl
 
-  -- as many pairs are there as bits are set
+  -- the number of pairs is the number of set bits
   pub live_counted : (digest : Digest) (bucket : BucketView K V) → IsDigest digest bucket → ones digest.live ≡ length (pairs_in bucket)
   live_counted digest bucket d =
       let lives = length-live_pairs-append bucket.own (flattened bucket.chain) in
@@ -318,7 +318,7 @@ module _ {K V : Type 0} where
       let d = is (λ lost. let all = ones-ones 32 in omega (arith, rw lost at few, all, most)) in
       omega (arith, few, live_counted digest bucket d)
 
--- a bitmap that says something
+-- a bitmap that isn't stale
 pub said_is : (lost : Bool) (bits : ℕ) → (bits ≡ 2 ^ 32 - 1 → IsTrue lost) → lost ≡ false → bits ≢ 2 ^ 32 - 1
 said_is lost bits lost_is is e = let yes : lost ≡ true = lost_is e in absurd cc
 

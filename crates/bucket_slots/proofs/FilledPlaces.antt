@@ -1,4 +1,4 @@
--- A filled place stands within its row, what is read there is what stands there, and a slot's number fits each integer.
+-- A filled place is within its row, reading it returns its pair, and a slot's number fits each integer type.
 use Rattle.bucket_slots.proofs.Words.{Fits, List, None, Option, arith, cases_lt, false≢true, get_or, get_or_past, get_or_read}
 use Rattle.bucket_slots.proofs.Words.{inl, inr, length, place_at, sym, w32, w64, w8, ℕ, ◌%◌, ◌<◌, ◌≡◌}
 use Rattle.bucket_slots.specs.Places.{IsFilled}

@@ -1,4 +1,4 @@
--- The live slots of a row that a loop over their mask has still to come to.
+-- The live slots of a row that a loop over their mask has yet to visit.
 use Rattle.bucket_slots.proofs.Words.{Bor, CallsEach, IsLowest, IsMaskOf, List, SetsBit, Slot, Some, [], ap, arith}
 use Rattle.bucket_slots.proofs.Words.{bit_at-zero}
 use Rattle.bucket_slots.proofs.Words.{cases_eq, cases_lt, drop, drop-drop, drop_all, drop_more, false, free}
@@ -20,14 +20,14 @@ module _ {K V : Type 0} where
     behind = λ i before. absurd (omega arith);
   }
 
-  -- the lowest bit is none of those behind
+  -- the lowest bit isn't one of those after it
   pub lowest_ahead : (slots : List (Slot K V)) (left from pos : ℕ) → NamesFrom slots left from → IsLowest left pos → from ≤ pos
   lowest_ahead slots left from pos names low = elim (cases_lt pos from) [
     | inl before ↦ absurd (omega (arith, low.set, names.behind pos before))
     | inr after ↦ after
   ]
 
-  -- without it they are those behind it
+  -- without it, the bits are those after it
   pub names_next : (slots : List (Slot K V)) (left from pos after : ℕ) → NamesFrom slots left from → IsLowest left pos
       → SetsBit left pos 0 after → NamesFrom slots after (pos + 1)
   names_next slots left from pos after names low clears =
@@ -76,7 +76,7 @@ module _ {K V : Type 0} where
       → live_pair (slot_at slots pos) ≡ pair_of (slot_at slots pos)
   live_read slots left from pos names low = (live_occupied (slot_at slots pos) (named_live slots left from pos names low)).1
 
-  -- where no bit is left there is none
+  -- if no bit is left, there is no pair
   pub no_pair : (slots : List (Slot K V)) (from : ℕ) → NamesFrom slots 0 from → live_pairs (drop from slots) ≡ []
   no_pair slots from names =
       live_pairs-skip (drop from slots) (length (drop from slots)) (λ k less.
@@ -85,7 +85,7 @@ module _ {K V : Type 0} where
       ∙ ap live_pairs (drop_all (length (drop from slots)) (drop from slots) (omega arith))
 
 module _ {S K V : Type 0} (step : S → Bor K → Bor V → S → Type 0) where
-  -- a function was called with the pairs of the live slots but for those whose bits are left
+  -- a function was called with the pairs of the live slots except those whose bits are left
   pub record IsCalling (first : S) (slots : List (Slot K V)) (now : S) (left : ℕ) : Type 0 where
     pub from : ℕ
     pub names : NamesFrom slots left from

@@ -1,4 +1,4 @@
--- Masks: what their bits say of a list's elements, and what they become where an element changes.
+-- Masks: what their bits state of a list's elements, and how they change with an element.
 use Rattle.bucket_slots.proofs.Words.{Bool, IsLeft, IsLowest, IsMaskOf, List, None, Option, SetsBit, Some, [], ap, arith}
 use Rattle.bucket_slots.proofs.Words.{bit_and, bit_at, bit_at-zero, bit_at_and, bit_at_not, bit_mask_l, cases_eq, cases_lt, common_steps}
 use Rattle.bucket_slots.proofs.Words.{cond, count_by, eqb, false, get_or, get_or-map, get_or-set_other, get_or-set_same, get_or_past, inl}
@@ -16,19 +16,19 @@ pub bit_is_not : (b : Bool) → ◌≡◌ {A = ℕ} (cond b 1 0) 0 → b ≡ fal
 bit_is_not true e = absurd (omega arith)
 bit_is_not false e = refl
 
--- a bit that is as wanted stays where nothing changes
+-- a bit that already has the value stays if nothing changes
 pub bit_already : (bits k bit : ℕ) → bit_at bits k ≡ bit → SetsBit bits k bit bits
 bit_already bits k bit is = record { same = is; others = λ i other. refl }
 
--- a mask is std's number of the answers
+-- a mask is std's number of the results
 mask_is : {A : Type 0} (test : A → Bool) (xs : List A) (bits : ℕ) → IsMaskOf test xs bits → bits ≡ mask_l (map test xs)
 mask_is test xs bits mask = same_from_bits bits (mask_l (map test xs)) (λ i. mask i ∙ sym (bit_mask_l (map test xs) i))
 
--- as many bits are set as elements pass
+-- the number of set bits is the number of elements that pass
 pub ones-mask : {A : Type 0} (test : A → Bool) (xs : List A) (bits : ℕ) → IsMaskOf test xs bits → ones bits ≡ count_by test xs
 ones-mask test xs bits mask = ap ones (mask_is test xs bits mask) ∙ ones-mask_l test xs
 
--- an element that passes is none past the end
+-- an element that passes isn't past the end
 pub within : {A : Type 0} (test : A → Bool) (xs : List A) (i : ℕ) (d : A) → test d ≡ false → test (get_or xs i d) ≡ true → i < length xs
 within test xs i d fails passes = elim (cases_lt i (length xs)) [
   | inl below ↦ below
@@ -44,25 +44,25 @@ module _ {A : Type 0} (test : A → Bool) where
   all_is [] = refl
   all_is (x ∷ xs) = let rest = all_is xs in grind (arith, nat_tests, common_steps)
 
-  -- of the elements those that pass and those that don't
+  -- the elements that pass and those that don't are all
   count_not : (xs : List A) → count_by (λ x. not (test x)) xs + count_by test xs ≡ length xs
   count_not [] = refl
   count_not (x ∷ xs) = let rest = count_not xs in grind (arith, nat_tests, common_steps)
 
-  -- the answer at an index, where the test fails past the end
+  -- the result at an index, if the test fails past the end
   answer_at : (xs : List A) (i : ℕ) (d : A) → test d ≡ false → get_or (map test xs) i false ≡ test (get_or xs i d)
   answer_at xs i d fails = elim (cases_lt i (length xs)) [
     | inl below ↦ get_or-map test xs i d false below
     | inr past ↦ get_or_past (map test xs) i false (simp length-map past) ∙ sym (ap test (get_or_past xs i d past) ∙ fails)
   ]
 
-  -- a number whose bits are the elements' answers is their mask
+  -- a number whose bits are the results for the elements is their mask
   pub IsMaskOf-from : (xs : List A) (bits : ℕ) (d : A) → test d ≡ false → ((i : ℕ) → bit_at bits i ≡ cond (test (get_or xs i d)) 1 0)
       → IsMaskOf test xs bits
   IsMaskOf-from xs bits d fails each i = each i ∙ ap (λ b. cond b 1 0) (sym (answer_at xs i d fails))
 
   module _ (xs : List A) (bits : ℕ) (mask : IsMaskOf test xs bits) where
-    -- no bit is set exactly where no element passes
+    -- no bit is set exactly if no element passes
     pub any-mask : list_any test xs ≡ not (eqb bits 0)
     any-mask = any_is xs ∙ ap (λ m. not (eqb m 0)) (sym (mask_is test xs bits mask))
 
@@ -70,18 +70,18 @@ module _ {A : Type 0} (test : A → Bool) where
     pub bit-mask : (i : ℕ) (d : A) → test d ≡ false → bit_at bits i ≡ cond (test (get_or xs i d)) 1 0
     bit-mask i d fails = mask i ∙ ap (λ b. cond b 1 0) (answer_at xs i d fails)
 
-    -- one element is another one, and its bit is set or cleared
+    -- one element is replaced, and its bit is set or cleared
     pub IsMaskOf-set : (i after : ℕ) (x : A) → i < length xs → SetsBit bits i (cond (test x) 1 0) after → IsMaskOf test (set xs i x) after
     IsMaskOf-set i after x below s j = rw map-set (elim (cases_eq j i) [
       | inl same ↦ rw (same, s.same, get_or-set_same (map test xs) i (test x) false (simp length-map below))
       | inr other ↦ rw (s.others j other, get_or-set_other (map test xs) i j (test x) false other) (mask j)
     ])
 
-    -- the bit of an element that there is
+    -- the bit of an element that exists
     bit_within : (i : ℕ) (d : A) → i < length xs → bit_at bits i ≡ cond (test (get_or xs i d)) 1 0
     bit_within i d below = mask i ∙ ap (λ b. cond b 1 0) (get_or-map test xs i d false below)
 
-    -- where no bit is set no element passes
+    -- if no bit is set, no element passes
     pub position-no_bit : (d : A) → bits ≡ 0 → position test xs ≡ None
     position-no_bit d none =
         position_nowhere test xs d (λ i below. bit_is_not _ (sym (bit_within i d below) ∙ ap (λ m. bit_at m i) none ∙ bit_at-zero i))
@@ -94,15 +94,15 @@ module _ {A : Type 0} (test : A → Bool) where
         (bit_is _ (sym (bit_within k d below) ∙ low.set))
 
   module _ (xs : List A) (bits : ℕ) (mask : IsMaskOf (λ x. not (test x)) xs bits) where
-    -- no bit is set exactly where each element passes
+    -- no bit is set exactly if each element passes
     pub all-mask : list_all test xs ≡ eqb bits 0
     all-mask = all_is xs ∙ ap (λ m. eqb m 0) (sym (mask_is (λ x. not (test x)) xs bits mask))
 
-    -- the bits that are set and the elements that pass are as many as the elements
+    -- the numbers of set bits and of elements that pass add up to the number of elements
     pub ones-mask_not : ones bits + count_by test xs ≡ length xs
     ones-mask_not = ap (λ n. n + count_by test xs) (ones-mask (λ x. not (test x)) xs bits mask) ∙ count_not xs
 
-    -- the bits that aren't set, of the first ones, are the mask of the elements that pass
+    -- the bits that aren't set, among the first ones, are the mask of the elements that pass
     pub IsMaskOf-not : (len : ℕ) (d : A) → len ≤ 32 → bits < 2 ^ 32 → length xs ≡ len
         → IsMaskOf test xs (bit_and (2 ^ 32 - 1 - bits) ((2 ^ 32 - 1) / 2 ^ (32 - len)))
     IsMaskOf-not len d few fits long i =
@@ -130,12 +130,12 @@ module _ {A : Type 0} (test : A → Bool) where
       → test (get_or xs k d) ≡ true
   lowest_passes xs bits k d mask low fails = bit_is _ (sym (bit-mask xs bits mask k d fails) ∙ low.set)
 
-  -- an element passes exactly where there is a first one
+  -- an element passes exactly if there is a first one
   pub any-position : (xs : List A) (d : A) (found : Option ℕ) → found ≡ position test xs → list_any test xs ≡ is_some found
   any-position xs d None e = list_any_none test xs (λ i e₀ below. position-None test xs i e₀ (sym e) below)
   any-position xs d (Some pos) e = let at = position-Some test xs pos d (sym e) in list_any_at test xs pos d at.0 at.1
 
-  -- the bits of a mask are left at first
+  -- at first the bits of a mask are left
   pub IsLeft-first : (P : A → Type 0) (d : A) (xs : List A) (bits : ℕ) → test d ≡ false → ((x : A) → test x ≡ false → P x)
       → IsMaskOf test xs bits → IsLeft test P d xs bits
   IsLeft-first P d xs bits fails others mask = record {
@@ -143,7 +143,7 @@ module _ {A : Type 0} (test : A → Bool) where
     done = λ i h. others _ (bit_is_not (test (get_or xs i d)) (sym (bit-mask xs bits mask i d fails) ∙ h));
   }
 
-  -- one of them goes, once P holds there
+  -- one of them is cleared, once P holds of its element
   pub IsLeft-next : (P : A → Type 0) (d : A) (xs ys : List A) (bits k after : ℕ) → IsLeft test P d xs bits → SetsBit bits k 0 after
       → ((i : ℕ) → i ≢ k → get_or ys i d ≡ get_or xs i d) → P (get_or ys k d) → IsLeft test P d ys after
   IsLeft-next P d xs ys bits k after l s same here =
@@ -156,23 +156,23 @@ module _ {A : Type 0} (test : A → Bool) where
         ];
       }
 
-  -- where the others fail a second test, the lowest of those that are left is the first that passes it, if it does
+  -- if the elements that aren't left fail a second test, and the lowest left one passes it, it is the first that passes
   pub position-left : (want : A → Bool) (d : A) (xs : List A) (bits k : ℕ) → want d ≡ false → IsLeft test (λ x. want x ≡ false) d xs bits
       → IsLowest bits k → want (get_or xs k d) ≡ true → position want xs ≡ Some k
   position-left want d xs bits k fails l low here =
       position_at want xs k d (within want xs k d fails here) (λ j below. l.done j (low.lower j below)) here
 
-  -- and where none is left, none passes it
+  -- and if none is left, none passes it
   pub position-none_left : (want : A → Bool) (d : A) (xs : List A) → IsLeft test (λ x. want x ≡ false) d xs 0 → position want xs ≡ None
   position-none_left want d xs l = position_nowhere want xs d (λ j below. l.done j (bit_at-zero j))
 
 module _ {A : Type 0} where
-  -- a mask is one of each test that answers alike
+  -- a mask is also one of each test with the same results
   pub IsMaskOf-alike : (test other : A → Bool) (xs : List A) (bits : ℕ) → ((x : A) → test x ≡ other x) → IsMaskOf test xs bits
       → IsMaskOf other xs bits
   IsMaskOf-alike test other xs bits alike mask = subst (λ t. IsMaskOf t xs bits) (λ j x. alike x j) mask
 
-  -- what one mask has and another has not
+  -- the bits that are set in one mask but not in another
   pub IsMaskOf-and_not : (test other : A → Bool) (xs : List A) (bits without : ℕ) (d : A) → test d ≡ false → other d ≡ false
       → length xs ≤ 32 → without < 2 ^ 32 → IsMaskOf test xs bits → IsMaskOf other xs without
       → IsMaskOf (λ x. test x && not (other x)) xs (bit_and bits (2 ^ 32 - 1 - without))

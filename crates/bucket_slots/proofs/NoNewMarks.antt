@@ -1,4 +1,4 @@
--- That no mark is new, of lists of marks, of rows of slots, and where a slot, a row or a bucket changes, comes or goes.
+-- No tombstone is new: in lists of tombstones, in rows of slots, and when a slot, a row or a bucket changes, is added or is removed.
 use Rattle.bucket_slots.proofs.Words.{Contains, Contains-append_cases, Contains-append_left, Contains-append_right, HasNoNewMark, List}
 use Rattle.bucket_slots.proofs.Words.{MarksBy, Slot, [], ap, arith, flat_map, flattened, free, get_or, inl, inr, map, marked_entries}
 use Rattle.bucket_slots.proofs.Words.{marked_entry, option_to_list, remove, rows_with, set, subst, suc, sym, take, zero, ℕ, ◌++◌, ◌∷◌, ◌≡◌}
@@ -11,22 +11,22 @@ module _ {K V : Type 0} where
   pub no_new-trans : (old between new : List ((K × V) × ℕ)) → HasNoNewMark old between → HasNoNewMark between new → HasNoNewMark old new
   no_new-trans old between new first second = record { stood = λ mark there. first.stood mark (second.stood mark there) }
 
-  -- the same marks
+  -- the same tombstones
   pub no_new-same : (old new : List ((K × V) × ℕ)) → new ≡ old → HasNoNewMark old new
   no_new-same old new same = subst (λ marks. HasNoNewMark marks new) same (no_new-refl new)
 
-  -- no marks
+  -- no tombstones
   pub no_new-none : (old : List ((K × V) × ℕ)) → HasNoNewMark old []
   no_new-none old = record { stood = λ mark there. Contains-append_left [] old mark there }
 
-  -- a part of the marks
+  -- a part of the tombstones
   pub no_new-front : (xs ys : List ((K × V) × ℕ)) → HasNoNewMark (xs ++ ys) xs
   no_new-front xs ys = record { stood = λ mark there. Contains-append_left xs ys mark there }
 
   pub no_new-rest : (xs ys : List ((K × V) × ℕ)) → HasNoNewMark (xs ++ ys) ys
   no_new-rest xs ys = record { stood = λ mark there. Contains-append_right xs ys mark there }
 
-  -- two lists of which none is new among the same
+  -- two lists, neither of which has a new one
   pub no_new-both : (old xs ys : List ((K × V) × ℕ)) → HasNoNewMark old xs → HasNoNewMark old ys → HasNoNewMark old (xs ++ ys)
   no_new-both old xs ys first second = record {
     stood = λ mark there. elim (Contains-append_cases xs ys mark there) [
@@ -42,7 +42,7 @@ module _ {K V : Type 0} where
       (no_new-trans (xs ++ ys) ys vs (no_new-rest xs ys) second)
 
 module _ {A K V : Type 0} (f : A → List ((K × V) × ℕ)) where
-  -- another element brings no mark to those of all but such as may come, where it brings none to its own
+  -- another element adds no tombstone to those of all but the ones allowed, if it adds no others to its own
   pub no_new-set : (more : List ((K × V) × ℕ)) (items : List A) (i : ℕ) (a d : A) → HasNoNewMark (more ++ f (get_or items i d)) (f a)
       → HasNoNewMark (more ++ flat_map f items) (flat_map f (set items i a))
   no_new-set more [] i a d here = no_new-none (more ++ [])
@@ -58,13 +58,13 @@ module _ {A K V : Type 0} (f : A → List ((K × V) × ℕ)) where
       no_new-both (more ++ (f c ++ rest)) (f c) (flat_map f (set items i a)) front
       (no_new-trans _ _ _ behind (no_new-set more items i a d here))
 
-  -- an element's marks are among those of all
+  -- an element's tombstones are among those of all
   pub no_new-at : (items : List A) (i : ℕ) (d : A) → f d ≡ [] → HasNoNewMark (flat_map f items) (f (get_or items i d))
   no_new-at [] i d none = no_new-same [] (f d) none
   no_new-at (c ∷ items) zero d none = no_new-front (f c) (flat_map f items)
   no_new-at (c ∷ items) (suc i) d none = no_new-trans _ _ _ (no_new-rest (f c) (flat_map f items)) (no_new-at items i d none)
 
-  -- an element goes, or those behind a position
+  -- an element is removed, or those after a position
   pub no_new-remove : (items : List A) (i : ℕ) → HasNoNewMark (flat_map f items) (flat_map f (remove items i))
   no_new-remove [] zero = no_new-refl []
   no_new-remove [] (suc i) = no_new-refl []
@@ -78,7 +78,7 @@ module _ {A K V : Type 0} (f : A → List ((K × V) × ℕ)) where
   no_new-take (suc n) (c ∷ items) =
       no_new-append (f c) (flat_map f items) (f c) (flat_map f (take n items)) (no_new-refl (f c)) (no_new-take n items)
 
-  -- each element becomes one that brings no mark
+  -- each element is replaced by one that adds no tombstone
   pub no_new-map : (g : A → A) → ((a : A) → HasNoNewMark (f a) (f (g a))) → (items : List A)
       → HasNoNewMark (flat_map f items) (flat_map f (map g items))
   no_new-map g each [] = no_new-refl []
@@ -86,11 +86,11 @@ module _ {A K V : Type 0} (f : A → List ((K × V) × ℕ)) where
       no_new-append (f c) (flat_map f items) (f (g c)) (flat_map f (map g items)) (each c) (no_new-map g each items)
 
 module _ {K V : Type 0} where
-  -- the marked pair of a slot with its epoch, or nothing
+  -- the pair of a tombstone with its epoch, or nothing
   abbrev pub mark_of : Slot K V → List ((K × V) × ℕ)
   mark_of slot = option_to_list (marked_entry slot)
 
-  -- another slot brings no mark but its own: to a row, and to rows
+  -- another slot adds no tombstone but its own: to a row, and to rows
   pub marked_entries-set : (slots : List (Slot K V)) (pos : ℕ) (x : Slot K V)
       → HasNoNewMark (mark_of x ++ marked_entries slots) (marked_entries (set slots pos x))
   marked_entries-set slots pos x =
@@ -109,11 +109,11 @@ contains_one x y (zero, less, is) = is
 contains_one x y (suc k, less, is) = absurd (omega (arith, less))
 
 module _ {K V : Type 0} (epoch : ℕ) where
-  -- no mark is new
+  -- no tombstone is new
   pub by-no_new : (old new : List ((K × V) × ℕ)) → HasNoNewMark old new → MarksBy epoch old new
   by-no_new old new none = record { stood = λ mark there. inl (none.stood mark there) }
 
-  -- one pair was marked
+  -- one pair became a tombstone
   pub by-one : (pair : K × V) (old new : List ((K × V) × ℕ)) → HasNoNewMark ((pair, epoch) ∷ old) new → MarksBy epoch old new
   by-one pair old new one = record {
     stood = λ mark there. elim (Contains-append_cases ((pair, epoch) ∷ []) old mark (one.stood mark there)) [
@@ -144,7 +144,7 @@ module _ {K V : Type 0} (epoch : ℕ) where
     ];
   }
 
-  -- another element
+  -- an element is replaced
   pub by-set : {A : Type 0} (f : A → List ((K × V) × ℕ)) (items : List A) (i : ℕ) (a d : A) → f d ≡ []
       → MarksBy epoch (f (get_or items i d)) (f a) → MarksBy epoch (flat_map f items) (flat_map f (set items i a))
   by-set f items i a d none here =

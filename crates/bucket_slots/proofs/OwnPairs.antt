@@ -33,7 +33,7 @@ module _ {K V : Type 0} (row : List (Slot K V)) (pos : ℕ) where
         absurd (other (ap Some here))
   ]
 
-  -- it is the first: its pair is the live one
+  -- if it is the first, its pair is the live one
   pub next_is_live : next_in pos row ≡ Some pos
       → (is_free (slot_at row pos) ≡ false) × (live_pair (slot_at row pos) ≡ pair_of (slot_at row pos))
   next_is_live here = live_occupied (slot_at row pos) (live_from _ refl here)
@@ -43,6 +43,6 @@ module _ {K V : Type 0} (row : List (Slot K V)) (pos : ℕ) where
   no_pair (live pair byte) dead = cc
   no_pair (marked pair byte) dead = refl
 
-  -- it isn't: it has no live pair
+  -- if it isn't, it has no live pair
   pub other_is_not : next_in pos row ≢ Some pos → None ≡ live_pair (slot_at row pos)
   other_is_not other = sym (no_pair (slot_at row pos) (dead_from _ refl other))

@@ -1,4 +1,4 @@
--- Pairs that spread from a row one after another, where the row is the own slots of a bucket.
+-- Pairs that spread one by one from a row that is the own slots of a bucket.
 use Rattle.bucket_slots.proofs.Words.{Bor, BucketView, IsBucket, IsBucketOf, IsLowest, IsMaskOf, IsRecencyOrder, IsRow, List, None, Option}
 use Rattle.bucket_slots.proofs.Words.{SetsBit, Slot, Some, arith, bit_at, bit_or, cond, flattened, free, get_or, is_live, is_marked}
 use Rattle.bucket_slots.proofs.Words.{is_some, length, live, live_pairs, marked, order_without, pair_of, refl, row_slots, set}
@@ -13,7 +13,7 @@ use Rattle.bucket_slots.proofs.NextPlaces.{moves_first}
 use Rattle.bucket_slots.proofs.RowFields.{row_freed}
 use Rattle.bucket_slots.proofs.RowSlots.{HoldsLive, live_held, slot_held, within_row}
 
--- two bitmaps in one, where one of them has no bit at k and the other loses it
+-- the union of two bitmaps, of which one doesn't have bit k and the other loses it
 SetsBit-or : (marks left k after : ℕ) → bit_at marks k ≡ 0 → SetsBit left k 0 after → SetsBit (bit_or marks left) k 0 (bit_or marks after)
 SetsBit-or marks left k after clear s = record {
   same = omega (arith, bit_at_or marks after k, s.same, clear);
@@ -21,7 +21,7 @@ SetsBit-or marks left k after clear s = record {
 }
 
 module _ {K V : Type 0} where
-  -- a bucket that keeps what every bucket does and counts the chain's pairs
+  -- a bucket of which the laws of buckets hold, and whose chain's pairs are counted
   pub IsBucket-counted : (kind : ℕ) (s : BucketView K V) (len : ℕ) → IsBucketOf kind s → len ≡ length (live_pairs (flattened s.chain))
       → IsBucket kind s len
   IsBucket-counted kind s len kept counted = record {
@@ -32,7 +32,7 @@ module _ {K V : Type 0} where
     unmarked = kept.unmarked;
   }
 
-  -- it keeps that where a live own slot is vacated
+  -- the laws still hold after a live own slot is vacated
   IsBucketOf-vacated : (kind : ℕ) (s : BucketView K V) (pos : ℕ) → IsBucketOf kind s → is_live (slot_at s.own pos) ≡ true
       → IsRecencyOrder (order_without s.listed pos) → IsBucketOf kind (slots_vacated_at s 0 pos)
   IsBucketOf-vacated kind s pos kept alive once =
@@ -53,7 +53,7 @@ module _ {K V : Type 0} where
   in_either (live pair byte) mark alive both is lives sum = omega arith
   in_either (marked pair byte) mark alive both is lives sum = omega arith
 
-  -- the slots that are occupied are the marked ones and the live ones
+  -- the occupied slots are the tombstones and the live ones
   IsRow-parted : (len : ℕ) (places : List (Option (K × V))) (bytes : List ℕ) (occupied marks left : ℕ) (slots : List (Slot K V))
       → IsRow len places bytes occupied marks → row_slots places bytes marks ≡ slots → IsMaskOf is_live slots left
       → IsRow len places bytes (bit_or marks left) marks
@@ -71,7 +71,7 @@ module _ {K V : Type 0} where
 
   module _ (kind : ℕ) (answers : Bor K → ℕ → Type 0) (names : ℕ → ℕ → Type 0) (start len : ℕ) (own : List (Slot K V)) (listed : List ℕ)
       (buckets : List (BucketView K V)) (bytes : List ℕ) (marks : ℕ) where
-    -- a row whose pairs spread: the bits that are left are its live slots, and with the marks they are those that are occupied
+    -- a row whose pairs spread: the remaining bits are its live slots, and with the tombstones they are the occupied ones
     pub record IsSpreading (places : List (Option (K × V))) (left : ℕ) (order : List ℕ) (between : List (BucketView K V)) : Type 0 where
       pub row : IsRow len places bytes (bit_or marks left) marks
       pub mask : IsMaskOf is_live (row_slots places bytes marks) left

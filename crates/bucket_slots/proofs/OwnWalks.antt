@@ -1,4 +1,4 @@
--- A walk over the own slots of a bucket by a bitmap of those that are left.
+-- A walk over the own slots of a bucket by a bitmap of the remaining ones.
 use Rattle.bucket_slots.proofs.Words.{BucketView, IsLowest, IsMaskOf, MovesToNext, Place, SetsBit, [], ap, arith, drop}
 use Rattle.bucket_slots.proofs.Words.{filter_map-append}
 use Rattle.bucket_slots.proofs.Words.{flattened, free, is_live, IsTrue, live_pair, live_pairs, ne_eqb, pairs_ahead}
@@ -17,7 +17,7 @@ use Rattle.bucket_slots.proofs.Masks.{bit-mask}
 use Rattle.bucket_slots.proofs.NextPlaces.{pairs_ahead-inside}
 use Rattle.bucket_slots.proofs.NextSlots.{live_pairs-live}
 
--- none is past the last own slot
+-- no bit is past the last own slot
 pub keeps_none : (bits : ℕ) (at : Place) (from : ℕ) → bits < 2 ^ 32 → (at.pos ≤ 32 → from ≡ position_after at.pos)
     → 32 ≤ from
     → KeepsAfter bits at 0
@@ -36,7 +36,7 @@ keeps_none bits at from fits near past = record {
     ]
 
 module _ {K V : Type 0} where
-  -- those of the live own slots that are after an own place
+  -- the live own slots that are after an own place
   pub own_after : (bucket : BucketView K V) (live : ℕ) (at : Place) (left : ℕ) → IsMaskOf is_live bucket.own live
       → KeepsAfter live at left → at.block ≡ 0 → AreOwnAfter bucket at left
   own_after bucket live at left mask keeps own =
@@ -49,7 +49,7 @@ module _ {K V : Type 0} where
         };
       }
 
-  -- where there are some, the place is an own one
+  -- if there are some, the place is an own one
   pub some_after : (bucket : BucketView K V) (live : ℕ) (at : Place) (left : ℕ) → IsMaskOf is_live bucket.own live
       → KeepsAfter live at left → left ≢ 0 → AreOwnAfter bucket at left
   some_after bucket live at left mask keeps some = go at.block refl
@@ -58,7 +58,7 @@ module _ {K V : Type 0} where
       go zero is = own_after bucket live at left mask keeps is
       go (suc block) is = absurd (some (keeps.chained (λ own. omega (arith, is, own))))
 
-  -- where there are none and no chain, no pair is ahead
+  -- if there are none and no chain, no pair is ahead
   none_ahead : (bucket : BucketView K V) (live block pos : ℕ) → AreAllOwn bucket live
       → KeepsAfter live (record { block = block; pos = pos }) 0
       → pairs_ahead bucket (record { block = block; pos = pos }) ≡ []
@@ -81,30 +81,30 @@ module _ {K V : Type 0} where
     some = some_after bucket live at left all.mask keeps;
   }
 
-  -- what a digest says that isn't lost
+  -- what a digest states that isn't stale
   pub all_own : (digests : DigestLists) (buckets : List (BucketView K V)) (index live : ℕ) → AreDigests digests buckets
       → live ≡ (digest_at digests index).live → live ≢ 2 ^ 32 - 1 → AreAllOwn (bucket_at buckets index) live
   all_own digests buckets index live are is known =
       let said = (are index (λ lost. known (is ∙ lost))).1 in
       record { mask = rw is said.mask; chainless = said.chainless }
 
-  -- what a digest of a bucket says
+  -- what a digest of a bucket states
   pub own_digest : (bucket : BucketView K V) (live : ℕ) (bytes : List ℕ) → IsDigest (record { live = live; bytes = bytes }) bucket
       → AreAllOwn bucket live
   own_digest bucket live bytes is = record { mask = is.mask; chainless = is.chainless }
 
-  -- where no own slot is live and there is no chain, there is no pair
+  -- if no own slot is live and there is no chain, there is no pair
   pub no_pairs : (bucket : BucketView K V) (live : ℕ) → AreAllOwn bucket live → live ≡ 0 → pairs_in bucket ≡ []
   no_pairs bucket live all none =
       rw (all.chainless, append-nil bucket.own) (no_pair bucket.own 0 (names_all bucket.own 0 (rw none at all.mask)))
 
-  -- the next live slot is an own one, and so many of the own ones are left behind it
+  -- the next live slot is an own one, and `rest` is the bitmap of the own ones after it
   pub record StepsOwn (bucket : BucketView K V) (at to : Place) (rest : ℕ) : Type 0 where
     pub moves : MovesToNext bucket at to
     pub live : IsTrue (is_live (slot_in bucket to))
     pub left : AreOwnAfter bucket to rest
 
-  -- it is the one of the lowest bit
+  -- it is that of the lowest bit
   pub steps_own : (bucket : BucketView K V) (at to : Place) (left pos after : ℕ) → AreOwnAfter bucket at left
       → IsLowest left pos
       → SetsBit left pos 0 after → to ≡ record { block = 0; pos = pos } → StepsOwn bucket at to after

@@ -1,4 +1,4 @@
--- The live pairs of a bucket after a call, up to order, and the slot or value that a call puts again.
+-- The live pairs of a bucket after a call, up to order, and a slot or value that a call writes back.
 use Rattle.bucket_slots.proofs.Words.{Bool, BucketView, IsPermutation, IsPermutation-map, List, Place, Slot, Some, [], all_free, ap, arith}
 use Rattle.bucket_slots.proofs.Words.{block_at, bucket_with_value, entries_in, false, flattened, free, free_block, get_or, is_free, is_live}
 use Rattle.bucket_slots.proofs.Words.{length, length-map, length-set, live, live_entries, live_entry, live_pair, map, map-append}
@@ -19,7 +19,7 @@ module _ {K V : Type 0} where
   pub length-entries_in : (s : BucketView K V) → length (entries_in s) ≡ length (pairs_in s)
   length-entries_in s = sym (length-map (entries_in s) (λ (e : (K × V) × ℕ). e.0)) ∙ ap length (map-entries_in s)
 
-  -- the same exchange of pairs as of pairs with their bytes
+  -- the same exchange for pairs as for pairs with their bytes
   pub pairs_moved : (xs ys : List ((K × V) × ℕ)) (s t : BucketView K V) → IsPermutation (xs ++ entries_in s) (ys ++ entries_in t)
       → IsPermutation (map (λ (e : (K × V) × ℕ). e.0) xs ++ pairs_in s) (map (λ (e : (K × V) × ℕ). e.0) ys ++ pairs_in t)
   pairs_moved xs ys s t moved =
@@ -42,7 +42,7 @@ module _ {K V : Type 0} where
   pub live_not_free : (x : Slot K V) → is_live x ≡ true → is_free x ≡ false
   live_not_free x h = (live_occupied x h).0
 
-  -- the slot that stands somewhere is put there again
+  -- the slot that is at a place is written there again
   pub with_slot-same : (s : BucketView K V) (block pos : ℕ)
       → with_slot_at s block pos (slot_in s (record { block = block; pos = pos })) ≡ s
   with_slot-same s zero pos = ap (λ own. record s { own = own }) (set-get_or s.own pos free)
@@ -50,7 +50,7 @@ module _ {K V : Type 0} where
       ap (λ chain. record s { chain = chain })
       (ap (λ row. set s.chain i row) (set-get_or (get_or s.chain i []) pos free) ∙ set-get_or s.chain i [])
 
-  -- and the value that stands there
+  -- and its value
   pub bucket_with_value-same : (s : BucketView K V) (at : Place) (p : K × V) → live_pair (slot_in s at) ≡ Some p
       → bucket_with_value s at p.1 ≡ s
   bucket_with_value-same s at p here =
@@ -58,7 +58,7 @@ module _ {K V : Type 0} where
       let same : slot_with_value (slot_in s at) p.1 ≡ slot_in s at = ap (λ x. slot_with_value x p.1) is.1 ∙ sym is.1 in
       ap (λ x. with_slot_at s at.block at.pos x) same ∙ with_slot-same s at.block at.pos
 
-  -- its pair, of which the parts were read apart
+  -- the pair of a slot whose key and value were read separately
   pub read_apart : (x : Slot K V) (k : K) (v : V) → is_live x ≡ true → option_map (λ p. p.0) (pair_of x) ≡ Some k
       → option_map (λ p. p.1) (pair_of x) ≡ Some v → live_pair x ≡ Some (k, v)
   read_apart (live p b) k v h first second =
@@ -76,11 +76,11 @@ module _ {K V : Type 0} where
       let same = same_made entries_in s (filter_map-chain live_entry s (free_block ∷ s.chain) refl) in
       rw (← same) (rw vacant.slot at put)
 
-  -- a place behind others in the chain's end has no live pair
+  -- free blocks at the chain's end have no live pair
   pub entries_in-with_free_blocks : (s : BucketView K V) (n : ℕ) → entries_in (with_free_blocks s n) ≡ entries_in s
   entries_in-with_free_blocks s n = filter_map-free_blocks live_entry s n refl
 
-  -- a vacated slot gives its pair, with its byte, and nothing else
+  -- a vacated slot loses its pair, with its byte, and nothing else changes
   pub entries_in-slots_vacated_at : (s : BucketView K V) (block pos : ℕ) (p : K × V) (b : ℕ) → slot_at (block_at s block) pos ≡ live p b
       → IsPermutation (entries_in s) ((p, b) ∷ entries_in (slots_vacated_at s block pos))
   entries_in-slots_vacated_at s zero pos p b here =
@@ -97,7 +97,7 @@ module _ {K V : Type 0} where
   rows_gone rows i true within e = rw e (live_entries-remove rows i within e)
   rows_gone rows i false within e = rw e refl
 
-  -- and a block that goes has none
+  -- and a block that is dropped has none
   pub entries_unlinked : (s : BucketView K V) (block : ℕ) → block < length (s.own ∷ s.chain)
       → entries_in (slots_unlinked_at s block) ≡ entries_in s
   entries_unlinked s zero within = refl
@@ -113,7 +113,7 @@ module _ {K V : Type 0} where
   length-vacated s zero pos = refl
   length-vacated s (suc i) pos = length-set s.chain i (set (get_or s.chain i []) pos free)
 
-  -- a removal takes its pair and nothing else
+  -- a removal removes its pair and nothing else
   pub entries_in-slots_without : (s : BucketView K V) (at : Place) (p : K × V) → live_pair (slot_in s at) ≡ Some p
       → (b : ℕ) × IsPermutation (entries_in s) ((p, b) ∷ entries_in (slots_without s at))
   entries_in-slots_without s at p e =
@@ -137,7 +137,7 @@ module _ {K V : Type 0} where
       ∙ set-set s.chain i (set row pos x) (set (set row pos x) pos y) ∙ ap (set s.chain i) (set-set row pos x y) in
       ap (λ chain. record s { chain = chain }) again
 
-  -- the same beside the pairs that stay
+  -- the same with the pairs that stay
   pub record IsRewritten (s : BucketView K V) (p : K × V) (w : V) (after : BucketView K V) : Type 0 where
     pub byte : ℕ
     pub rest : List ((K × V) × ℕ)
@@ -164,7 +164,7 @@ module _ {K V : Type 0} where
       → IsRewritten s p w (bucket_with_value s at w)
   rewritten s at p w e = let h = live_is (slot_in s at) p e in rewritten_at s at.block at.pos p h.0 w h.1
 
-  -- the same of pairs alone
+  -- the same for pairs only
   pub pairs_in-slots_vacated : (s : BucketView K V) (at : Place) (p : K × V) → live_pair (slot_in s at) ≡ Some p
       → IsPermutation (pairs_in s) (p ∷ pairs_in (slots_vacated s at))
   pairs_in-slots_vacated s at p e =

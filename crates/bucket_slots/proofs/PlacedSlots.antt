@@ -1,4 +1,4 @@
--- A placement and a vacated slot: the own slots, the pairs of the chain and the recency list after it.
+-- A placement and a vacated slot: the own slots, the pairs of the chain and the LRU list after it.
 use Rattle.bucket_slots.proofs.Words.{All, All-contains, All-head, All-tail, BucketView, Contains, Contains-append_left}
 use Rattle.bucket_slots.proofs.Words.{Contains-append_right, Contains-from_any, Contains-permutation, IsBucketOf, IsPermutation}
 use Rattle.bucket_slots.proofs.Words.{IsRecencyOrder, IsTrue, List, Slot, [], ap, arith, block_at, eqb-true, false, false_from_ne_true}
@@ -32,7 +32,7 @@ next_is_new (first ∷ order) (suc k) is_order below =
     (next_is_new order k (older_order first order is_order) within)
 
 module _ {K V : Type 0} where
-  -- another slot stands in the place of a free one
+  -- a free slot is replaced by another one
 
   own_still : (s : BucketView K V) (block pos : ℕ) (x : Slot K V) (slot : ℕ) → slot_at (block_at s block) pos ≡ free
       → is_free (slot_at s.own slot) ≡ false → slot_at (with_slot_at s block pos x).own slot ≡ slot_at s.own slot
@@ -86,7 +86,7 @@ module _ {K V : Type 0} where
         own_still (with_place_made s) next.block next.pos (live p b) slot (place_made s).slot (rw same_own occupied)
         ∙ ap (λ own. slot_at own slot) same_own
 
-    -- the pair stands in the own slot that it was given
+    -- if the pair was given an own slot, it is in that slot
     pub own_put : (place_for_next s).block ≡ 0 → slot_at (slots_with s p b).own (place_for_next s).pos ≡ live p b
     own_put own =
         let next = place_for_next s in own_here (with_place_made s) next.block next.pos (live p b) own (place_made s).within
@@ -111,7 +111,7 @@ module _ {K V : Type 0} where
         chain_still (with_place_made s) next.block next.pos p q b (place_made s).within (place_made s).slot
         (rw (same_made (λ (t : BucketView K V). live_pairs (flattened t.chain)) s refl) has)
 
-    -- the pair stands there where it wasn't given an own slot
+    -- and if it wasn't, it is in the chain
     pub chain_put : ((place_for_next s).block ≡ 0 → ⊥) → Contains (live_pairs (flattened (slots_with s p b).chain)) p
     chain_put other =
         let next = place_for_next s in

@@ -62,12 +62,12 @@ power_min m n p q =
     (λ (h : n ≤ m). let e : n ≡ min m n = omega arith in subst IsPowerOfTwo e q)
     (cases_lt m n)
 
--- where a growth starts is a power of two
+-- the start of a growth is a power of two
 pub power_start : (least capacity maximum : ℕ) → IsPowerOfTwo least → IsPowerOfTwo capacity → IsPowerOfTwo maximum
     → IsPowerOfTwo (min (max least capacity) maximum)
 power_start least capacity maximum p q r = power_min (max least capacity) maximum (power_max least capacity p q) r
 
--- a power of two that is n or more is the least one where half of it is below n
+-- a power of two that is at least n is the least one if half of it is below n
 pub least_from_half : (n p : ℕ) → IsPowerOfTwo p → n ≤ p → p / 2 < max 1 n → IsLeastPowerOfTwo n p
 least_from_half n p (k, is) enough half = record {
   is_power = (k, is);

@@ -1,4 +1,4 @@
--- A pair stands in the place of another one: that slot was free between, and no other entry changed.
+-- A pair replaces another one: the slot was free in between, and no other entry changed.
 use Rattle.bucket_slots.proofs.Words.{BucketView, IsPermutation, List, Place, Slot, Some, ap, block_at}
 use Rattle.bucket_slots.proofs.Words.{entries_in, free, length, length-set, live, live_pair, refl, slot_at}
 use Rattle.bucket_slots.proofs.Words.{slot_in, suc, with_slot_at, zero, ℕ, ◌<◌, ◌∙◌, ◌∷◌, ◌≡◌, is_live, true}
@@ -31,7 +31,7 @@ module _ {K V : Type 0} where
   killed_kept s zero pos x = refl
   killed_kept s (suc i) pos x = refl
 
-  -- one entry gives its place to another one
+  -- one entry is replaced by another one
   pub record IsReplaced (s : BucketView K V) (p q : K × V) (b : ℕ) (after : BucketView K V) : Type 0 where
     pub byte : ℕ
     pub rest : List ((K × V) × ℕ)

@@ -1,4 +1,4 @@
--- The free slots of a bucket after a call, what is ahead of a pointer, and that no call but kill makes it killed.
+-- The free slots of a bucket after a call, what is ahead of a pointer, and that no call but `kill` makes it killed.
 use Rattle.bucket_slots.proofs.Words.{Bool, BucketView, Err, INDEX, IsRefused, None, Ok, OnErr, Option, Place, Result, Slot, Some, []}
 use Rattle.bucket_slots.proofs.Words.{all_slots, ap, arith, bucket_with_value, false, first_place, flattened, free_block, free_len_in}
 use Rattle.bucket_slots.proofs.Words.{if◌then◌else◌, is_free, is_some, length, live, live_pairs, looks_at_marks, nil_from_length, pairs_in}
@@ -11,7 +11,7 @@ use Rattle.bucket_slots.proofs.Counting.{free_len-blocks, length-live_pairs-appe
 use Rattle.bucket_slots.proofs.FirstPlaces.{first_from-None}
 pub use Rattle.bucket_slots.proofs.AheadAfterRemoval.{pairs_ahead-slots_vacated}
 
--- the two parts of a refusal
+-- the two parts of a failure
 pub refused_unchanged : {A E K V : Type 0} (result : Result A E) (old new room : BucketView K V) → OnErr result (IsRefused old new room)
     → OnErr result (new ≡ old)
 refused_unchanged (Ok x) old new room refused = tt
@@ -23,7 +23,7 @@ refused_full (Ok x) old new room refused = tt
 refused_full (Err e) old new room refused = refused.no_free_slot
 
 module _ {K V : Type 0} where
-  -- where no place is free, no slot is
+  -- if no place is free, no slot is
   pub free_len_in-none : (s : BucketView K V) → first_place is_free s ≡ None → free_len_in s ≡ 0
   free_len_in-none s none =
       let one : Slot K V → ℕ = λ x. tally (is_free x) in
@@ -42,18 +42,18 @@ module _ {K V : Type 0} where
       let put = sum_by-with_slot (λ (x : Slot K V). tally (is_free x)) made next.block next.pos (live pair byte) vacant.within in
       omega (arith, ap free_len_in same, ap (λ (x : Slot K V). tally (is_free x)) vacant.slot)
 
-  -- a pair placed takes a free slot
+  -- placing a pair takes a free slot
   pub free_len_in-slots_with : (s : BucketView K V) (pair : K × V) (byte : ℕ) → 0 < free_len_in s
       → free_len_in (slots_with s pair byte) + 1 ≡ free_len_in s
   free_len_in-slots_with s pair byte some = placed s pair byte (first_place is_free s) refl some
 
-  -- a block makes four free slots
+  -- a block adds four free slots
   pub free_len_in-with_free_blocks : (s : BucketView K V) (n : ℕ) → free_len_in (with_free_blocks s n) ≡ free_len_in s + 4 * n
   free_len_in-with_free_blocks s n =
       let parts = sum_by-append (λ (x : Slot K V). tally (is_free x)) s.own in
       omega (arith, parts (flattened s.chain), parts (flattened (s.chain ++ replicate n free_block)), free_len-blocks s.chain n)
 
-  -- no call but kill changes whether a bucket is killed
+  -- no call but `kill` changes whether a bucket is killed
   killed-with_slot_at : (s : BucketView K V) (block pos : ℕ) (x : Slot K V) → (with_slot_at s block pos x).killed ≡ s.killed
   killed-with_slot_at s zero pos x = refl
   killed-with_slot_at s (suc i) pos x = refl

@@ -1,4 +1,4 @@
--- What the bitmaps of a row say of its slots.
+-- What the bitmaps of a row state of its slots.
 use Rattle.bucket_slots.proofs.Words.{Bool, IsLowest, IsMaskOf, IsRow, List, Option, SetsBit, Slot, Some, ap, arith, bit_and, bit_at}
 use Rattle.bucket_slots.proofs.Words.{bit_at-zero, bit_at_and, common_steps, cond, false, free, get_or, get_or-map, get_or-set_other}
 use Rattle.bucket_slots.proofs.Words.{get_or-set_same, get_or_default, has_byte, if◌then◌else◌, is_free, is_live, is_marked, is_some}
@@ -19,7 +19,7 @@ module _ {K V : Type 0} where
   is_live_by free = refl
   is_live_by slot = refl
 
-  -- a slot with a byte is live
+  -- a slot with a matching byte is live
   pub candidate_live : (slot : Slot K V) (byte : ℕ) → has_byte byte slot ≡ true → is_live slot ≡ true
   candidate_live (live pair own) byte is = refl
   candidate_live slot byte is = cc
@@ -49,7 +49,7 @@ module _ {K V : Type 0} where
     pub mark_mask : IsMaskOf is_marked slots marks
     mark_mask = rw (← view) row.marked
 
-    -- the occupied slots with no mark are the live ones
+    -- the occupied slots without tombstones are the live ones
     pub live_mask : marks < 2 ^ 32 → IsMaskOf is_live slots (bit_and occupied (2 ^ 32 - 1 - marks))
     live_mask fits =
         IsMaskOf-alike (λ slot. not (is_free slot) && not (is_marked slot)) is_live slots _ is_live_by
@@ -69,7 +69,7 @@ module _ {K V : Type 0} where
         let all = bit_at_and (bit_and mask occupied) (2 ^ 32 - 1 - marks) i in
         omega (arith, all, bit_at_and mask occupied i, bit_at_and occupied (2 ^ 32 - 1 - marks) i))
 
-  -- a candidate is wanted as what is said of its key
+  -- a candidate matches exactly if its key does
   pub candidate_wanted : (wants now : K → Bool) (byte : ℕ) (slot : Slot K V) (key : K) (value : V) (said : Bool) → has_byte byte slot ≡ true
       → pair_of slot ≡ Some (key, value) → now ≡ wants → said ≡ now key → is_wanted wants byte slot ≡ said
   candidate_wanted wants now byte free key value said matches read same answer = cc
@@ -77,14 +77,14 @@ module _ {K V : Type 0} where
       let here : pair ≡ (key, value) = cc in rw (matches, here, ← same) (sym answer)
   candidate_wanted wants now byte (marked pair own) key value said matches read same answer = cc
 
-  -- a slot that is no candidate isn't wanted
+  -- a slot that isn't a candidate doesn't match
   pub unwanted : (test : K → Bool) (byte : ℕ) (slot : Slot K V) → has_byte byte slot ≡ false → is_wanted test byte slot ≡ false
   unwanted test byte free other = refl
   unwanted test byte (live pair own) other = rw other refl
   unwanted test byte (marked pair own) other = refl
 
 module _ {K V : Type 0} (keeps : ℕ → Bool) where
-  -- a slot that is freed where it is expired isn't expired then, nor is one without a mark
+  -- a slot that is freed if it is expired isn't expired then, nor is a slot without a tombstone
   freed_once : (slot : Slot K V) → slot_without_expired keeps (slot_without_expired keeps slot) ≡ slot_without_expired keeps slot
   freed_once free = refl
   freed_once (live pair byte) = refl
@@ -99,21 +99,21 @@ module _ {K V : Type 0} (keeps : ℕ → Bool) where
   unmarked_stays (marked pair byte) unmarked = cc
   unmarked_stays slot unmarked = refl
 
-  -- a marked slot stays or is free, as the test says of its byte
+  -- a tombstone stays or is freed, as the test decides by its byte
   pub expired_is : (slot : Slot K V) (byte : ℕ) (kept : Bool) → is_marked slot ≡ true
       → slot_of (pair_of slot) byte (cond (is_marked slot) 1 0) ≡ slot
       → keeps byte ≡ kept → slot_without_expired keeps slot ≡ (if kept then slot else free)
   expired_is (marked pair own) byte kept is whole e = let same : own ≡ byte = cc in rw (same, e) refl
   expired_is slot byte kept is whole e = cc
 
-  -- the marked slots are left at first
+  -- at first the tombstones are left
   pub IsExpiring-first : (slots : List (Slot K V)) (bits : ℕ) → IsMaskOf is_marked slots bits → IsExpiring keeps slots slots bits
   IsExpiring-first slots bits mask = record {
     waiting = IsLeft-first is_marked (λ slot. slot_without_expired keeps slot ≡ slot) free slots bits refl unmarked_stays mask;
     same = refl;
   }
 
-  -- one slot that is left is freed, where it is expired
+  -- one of the remaining slots is freed, if it is expired
   pub IsExpiring-next : (old new : List (Slot K V)) (left pos after : ℕ) → IsExpiring keeps old new left → IsLowest left pos
       → SetsBit left pos 0 after → IsExpiring keeps old (set new pos (slot_without_expired keeps (slot_at new pos))) after
   IsExpiring-next old new left pos after x low s =

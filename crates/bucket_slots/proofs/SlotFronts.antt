@@ -1,4 +1,4 @@
--- The pairs before a slot and behind it, whatever stands in it.
+-- The pairs before a slot and after it, whatever is in it.
 use Rattle.bucket_slots.proofs.Words.{BucketView, IsBucketOf, IsChain, List, None, Place, Slot, Some, [], add-one, ap, append_assoc, arith}
 use Rattle.bucket_slots.proofs.Words.{block_at, cons_option, drop, filter_map-append, flattened, free, get_or, length, live_pair}
 use Rattle.bucket_slots.proofs.Words.{live_pairs, map, pairs_ahead, pairs_in, refl, set, set_split, slot_in, slot_marked}
@@ -18,7 +18,7 @@ module _ {K V : Type 0} where
   slots_before (row ∷ rows) zero pos = take pos row
   slots_before (row ∷ rows) (suc i) pos = row ++ slots_before rows i pos
 
-  -- and those behind it
+  -- and those after it
   abbrev slots_behind : List (List (Slot K V)) → ℕ → ℕ → List (Slot K V)
   slots_behind rows i pos = drop (suc pos) (get_or rows i []) ++ flattened (drop (suc i) rows)
 
@@ -67,7 +67,7 @@ module _ {K V : Type 0} where
         let short = live_inside (block_at s at.block) at.pos (live_from_pair (slot_in s at) p here) in
         cut s at.block at.pos x short (omega (arith, short, block_short s at.block kept.own_long chain))
 
-    -- another slot leaves what stands before its pair and what is ahead of it
+    -- another slot keeps what is before its pair and what is ahead of it
     pub pairs_in-with_slot : (x : Slot K V) (front : List (K × V)) → pairs_in s ≡ front ++ p ∷ pairs_ahead s at
         → pairs_in (with_slot s at x) ≡ front ++ cons_option (live_pair x) (pairs_ahead s at)
     pairs_in-with_slot x front is =
@@ -76,7 +76,7 @@ module _ {K V : Type 0} where
         let same = append_cancel_right (pairs_before s at) front (p ∷ pairs_ahead s at) (sym here_is ∙ is) in
         at_slot x ∙ ap (λ l. l ++ cons_option (live_pair x) (pairs_ahead s at)) same
 
-    -- a mark takes the pair from between them
+    -- a tombstone removes the pair from between them
     pub pairs_in-slots_marked : (epoch : ℕ) (front : List (K × V)) → pairs_in s ≡ front ++ p ∷ pairs_ahead s at
         → pairs_in (slots_marked s at epoch) ≡ front ++ pairs_ahead s at
     pairs_in-slots_marked epoch front is =

@@ -17,19 +17,19 @@ use Rattle.bucket_slots.specs.Layout.ArrayParts.{AreBuckets, buckets_of}
 use Rattle.bucket_slots.proofs.Intervals.{home_by_offset}
 
 module _ {K V : Type 0} where
-  -- where an own slot is free, a pair goes to the first one
+  -- if an own slot is free, a pair goes to the first free one
   pub put_in_own : (b : BucketView K V) (pos : ℕ) (pair : K × V) (byte : ℕ) → position is_free b.own ≡ Some pos
       → slots_with b pair byte ≡ with_slot b (record { block = 0; pos = pos }) (live pair byte)
   put_in_own b pos pair byte at =
       let first : first_place is_free b ≡ Some (record { block = 0; pos = pos }) = rw at refl in
       rw first refl
 
--- a difference that wraps is the true one, where it is below a bound that the upper number can take
+-- a wrapping difference is the true one, if it is below a bound that fits above the subtracted number
 pub offset_is : (number start len : ℕ) → number < 2 ^ 64 → start < 2 ^ 64 → start + len ≤ 2 ^ 64
     → (number + (2 ^ 64 - start)) % 2 ^ 64 < len → number ≡ start + (number + (2 ^ 64 - start)) % 2 ^ 64
 offset_is number start len fits begins bounded below = omega arith
 
--- elements put over others
+-- elements written over others
 pub put_over : {A : Type 0} (xs ws : List A) (i : ℕ) → i + length ws ≤ length xs
     → take (length xs) ((take i xs ++ (ws ++ drop (length ws) (drop i xs)))
     ++ drop (length (take i xs ++ (ws ++ drop (length ws) (drop i xs)))) xs)
@@ -49,7 +49,7 @@ module _ {K V : Type 0} (kind : ℕ) (answers : Bor K → ℕ → Type 0) (names
       ap length one.placed ∙ length-set between one.index _ ∙ spread_len start count s left c between rest
 
   module _ (front back : List (BucketView K V)) (start at : ℕ) (stands : at ≡ start + length front) where
-    -- what happens to some buckets happens to those among which they are
+    -- what happens to some buckets happens to a list that contains them
     one_within : (s t : BucketView K V) (c d : List (BucketView K V)) → SpreadsOne kind answers names at s c t d
         → SpreadsOne kind answers names start s (front ++ (c ++ back)) t (front ++ (d ++ back))
     one_within s t c d one =
@@ -85,7 +85,7 @@ module _ {K V : Type 0} (kind : ℕ) (answers : Bor K → ℕ → Type 0) (names
     spread_within (suc count) s t c d (left, between, rest, one) =
         (left, front ++ (between ++ back), spread_within count s left c between rest, one_within left t between d one)
 
-  -- another word for the index that a number names
+  -- the same with another relation between a number and an index
   pub spread_named : (other : ℕ → ℕ → Type 0) → ((number index : ℕ) → names number index → other number index) → (start count : ℕ)
       (s t : BucketView K V) (c d : List (BucketView K V)) → Spreads kind answers names start count s c t d
       → Spreads kind answers other start count s c t d
@@ -113,7 +113,7 @@ module _ {K V : Type 0} (kind : ℕ) (answers : Bor K → ℕ → Type 0) (names
   )
 
 module _ {K V : Type 0} where
-  -- a part of which some made buckets are others now, and what stands before them and behind them
+  -- a part of which some initialized buckets are replaced, and what is before them and after them
   pub record IsPartOver (made : List (BucketView K V)) (len : ℕ) (released : Bool) (i : ℕ)
       (run ws made_after : List (BucketView K V)) : Type 0 where
     pub front : List (BucketView K V)
@@ -156,7 +156,7 @@ module _ {K V : Type 0} where
             ∙ ap (λ k. take i made ++ (ws ++ (drop k made ++ rest))) ends;
       }
 
-  -- a list of buckets of which some are others now, and what stands before them and behind them
+  -- a list of buckets of which some are replaced, and what is before them and after them
   pub record IsListOver (made : List (BucketView K V)) (i : ℕ) (run ws after : List (BucketView K V)) : Type 0 where
     pub front : List (BucketView K V)
     pub back : List (BucketView K V)
@@ -269,11 +269,11 @@ module _ {K V : Type 0} where
         spread_len kind answers (IsShifted shift) 0 count s t now after spread,
       )
 
-  -- of two lists with one front its elements are alike
+  -- two lists with the same front have the same elements in it
   pub front_same : (front xs ys : List (BucketView K V)) (i : ℕ) → i < length front → bucket_at (front ++ xs) i ≡ bucket_at (front ++ ys) i
   front_same front xs ys i below = get_or_append_left front xs empty_bucket i below ∙ sym (get_or_append_left front ys empty_bucket i below)
 
-  -- where one part changes behind an offset, the buckets before that place stay
+  -- if one part changes after an offset, the buckets before that place stay
   pub same_before : (parts items : List (List (BucketView K V))) (spare : List (BucketView K V)) (len bits part offset start : ℕ)
       (left : List (BucketView K V)) → AreParts parts spare len bits → AreParts items spare len bits → start < length (flattened parts)
       → part ≡ start / 2 ^ bits → offset ≡ start % 2 ^ bits → items ≡ set parts part left

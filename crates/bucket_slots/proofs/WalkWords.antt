@@ -1,4 +1,4 @@
--- The words of the proofs that walk the code by hand, from one place.
+-- The names that manual walks of the code use, from one place.
 pub use base.Fml.{Fml, GName, Lft, Share, fbor, feq, flft, fobs, fsep, ftrue}
 pub use base.Logic.{SProp, emp, ent, ex, guard, id⊢, sep}
 pub use contract.BorrowLft.{◌⊑◌}

@@ -1,4 +1,4 @@
--- The words that most proofs use, from one place.
+-- The names that most proofs use, from one place.
 pub use Rattle.std.proofs.Common.{All, Bool, Bor, Box, Contains, Err, Fits, IfOk, IfSome, IsPermutation, IsTrue, List, MatchOption, MutBor}
 pub use Rattle.std.proofs.Common.{None, Ok, OnErr, Option, Result, Some, [], add-mul, add-one, ap, append-nil, append_assoc, arith, bit_and}
 pub use Rattle.std.proofs.Common.{bit_or, cond, count_by, div-lt_iff_lt-mul, div-mul-le_self, drop, drop-drop, drop-set-lt, eq-eqb, eqb}

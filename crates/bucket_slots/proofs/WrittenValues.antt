@@ -1,4 +1,4 @@
--- The pairs of a bucket once a value is written.
+-- The pairs of a bucket after a value is written.
 use Rattle.bucket_slots.proofs.Words.{BucketView, IsBucketOf, IsChain, List, Place, Some, ap, block_at, bucket_with_value, cons_option}
 use Rattle.bucket_slots.proofs.Words.{live_pair, pairs_ahead, pairs_in, refl, slot_in, slot_with_value, ℕ, ◌++◌, ◌∙◌, ◌∷◌, ◌≡◌}
 use Rattle.bucket_slots.proofs.AheadAfterRemoval.{pairs_ahead-with_slot}
@@ -7,7 +7,7 @@ use Rattle.bucket_slots.proofs.PairsAfter.{live_from_pair, live_is}
 use Rattle.bucket_slots.proofs.SlotFronts.{pairs_in-with_slot}
 
 module _ {K V : Type 0} where
-  -- the pairs where a value is another
+  -- the pairs after one value is replaced
   pub record IsValued (s : BucketView K V) (at : Place) (p : K × V) (value : V) : Type 0 where
     pub pairs : (front : List (K × V)) → pairs_in s ≡ front ++ p ∷ pairs_ahead s at
         → pairs_in (bucket_with_value s at value) ≡ front ++ (p.0, value) ∷ pairs_ahead s at

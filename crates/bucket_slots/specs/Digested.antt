@@ -1,4 +1,4 @@
--- What calls on a bucket of an array do that search it and then take or put a pair.
+-- What calls on a bucket of an array do that search it and then remove or insert a pair.
 use Rattle.std.specs.Prelude.{ℕ, ◌≡◌, Bool, Option, Some, None, Result, Ok, Err, List, length, slice_set}
 use Rattle.bucket_slots.specs.ArrayView.{bucket_at}
 use Rattle.bucket_slots.specs.BucketView.{BucketView, Place, bucket_with_value, first_place, pairs_in, slot_in}
@@ -9,7 +9,7 @@ use Rattle.bucket_slots.specs.Slots.{is_free, live_pair}
 use Rattle.bucket_slots.specs.declared.bucket_array.writing.NotPut.{NotPut}
 use Rattle.bucket_slots.specs.declared.bucket_array.writing.NotPut.TheVariants.{Memory, Present}
 
--- the pair of the first wanted slot of a bucket is taken out, and so many are left there
+-- the pair of the first matching slot of a bucket is taken out, and `left` live pairs are left there
 pub record TakesFirst {K V : Type 0} (wants : K → Bool) (byte index : ℕ) (old : List (BucketView K V)) (pair : K × V) (left : ℕ)
     (new : List (BucketView K V)) : Type 0 where
   pub at : Place
@@ -18,13 +18,13 @@ pub record TakesFirst {K V : Type 0} (wants : K → Bool) (byte index : ℕ) (ol
   pub changed : new ≡ slice_set old index (slots_without (bucket_at old index) at)
   pub left_is : left ≡ length (pairs_in (slots_without (bucket_at old index) at))
 
--- there is no answer exactly where no slot is wanted, and all stays
+-- the result is `None` exactly if no slot matches, and nothing changes
 abbrev pub TakesWanted : {K V : Type 0} → (K → Bool) → ℕ → ℕ → List (BucketView K V) → Option ((K × V) × ℕ) → List (BucketView K V) → Type 0
 TakesWanted wants byte index old (Some found) new = TakesFirst wants byte index old found.0 found.1 new
 TakesWanted wants byte index old None new = (new ≡ old) × (place_wanted wants byte (bucket_at old index) ≡ None)
 
--- no live slot has an equal key where a pair was put, or allocation failed, and then no slot is free; one has where the answer says so;
--- what isn't put is returned
+-- if the pair was inserted, no live slot had an equal key; if allocation failed, none had either, and no slot is free; if the result says
+-- that the key is present, a live slot has it; a pair that isn't inserted is returned
 abbrev pub AnswersPut : {K V : Type 0} → (K → K → Bool) → K → V → ℕ → ℕ → (ℕ → Bool) → BucketView K V
     → Result (Unit {0}) (NotPut K V) → Type 0
 AnswersPut eq key value byte kind keeps bucket (Ok done) = place_wanted (λ own. eq own key) byte bucket ≡ None
@@ -34,8 +34,8 @@ AnswersPut eq key value byte kind keeps bucket (Err (Memory k v)) =
     (k ≡ key) × (v ≡ value) × (place_wanted (λ own. eq own key) byte bucket ≡ None)
     × (first_place is_free (slots_for_insertion kind keeps bucket) ≡ None)
 
--- a pair put into a bucket where no live slot has an equal key, or its value written where one has; what isn't put is returned, and then
--- no slot is free
+-- a pair is inserted into a bucket if no live slot has an equal key, and otherwise its value is replaced; a pair that isn't inserted is
+-- returned, and then no slot is free
 abbrev pub UpsertsIn : {K V : Type 0} → (K → K → Bool) → K → V → ℕ → ℕ → (ℕ → Bool) → BucketView K V → Result (Option V) (K × V)
     → BucketView K V → Type 0
 UpsertsIn eq key value byte kind keeps old (Ok None) new =

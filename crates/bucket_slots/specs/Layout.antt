@@ -1,4 +1,4 @@
--- How fields hold what contracts see. No public clause cites a module below this one.
+-- How fields hold what contracts see. No public clause cites these modules.
 pub mod Bitmaps
 pub mod Blocks
 pub mod BoxedRows

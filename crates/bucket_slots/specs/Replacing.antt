@@ -1,4 +1,4 @@
--- What a bucket is once a pair has replaced another one.
+-- What a bucket is after a pair has replaced another one.
 use Rattle.std.specs.Prelude.{ℕ}
 use Rattle.bucket_slots.specs.BucketView.{BucketView, Place, with_slot}
 use Rattle.bucket_slots.specs.Moving.{slots_vacated}

@@ -10,7 +10,8 @@ use Rattle.bucket_slots.specs.Slots.{live_pair}
 use Rattle.bucket_slots.specs.Walking.{MovesToNext}
 
 module _ {K V : Type 0} (kind : ℕ) (answers : Bor K → ℕ → Type 0) (names : ℕ → ℕ → Type 0) (start : ℕ) where
-  -- the first live pair moves to one of some buckets: the answer for its key names that bucket, where `start` is the first one's index
+  -- the first live pair moves to one of some buckets: the result for its key is the index of that bucket, where `start` is the index of the
+  -- first
   pub record SpreadsOne (old : BucketView K V) (buckets : List (BucketView K V)) (new : BucketView K V)
       (after : List (BucketView K V)) : Type 0 where
     pub at : Place
@@ -28,17 +29,17 @@ module _ {K V : Type 0} (kind : ℕ) (answers : Bor K → ℕ → Type 0) (names
     pub vacated : new ≡ slots_vacated old at
     pub placed : after ≡ slice_set buckets index (slots_with (bucket_at buckets index) (key.now, value) (number % 256))
 
-  -- so many pairs do, one after another
+  -- the given number of pairs move so, one after another
   abbrev pub Spreads : ℕ → BucketView K V → List (BucketView K V) → BucketView K V → List (BucketView K V) → Type 0
   Spreads zero old buckets new after = (new ≡ old) × (after ≡ buckets)
   Spreads (suc count) old buckets new after =
       (left : BucketView K V) × (between : List (BucketView K V)) × Spreads count old buckets left between
       × SpreadsOne left between new after
 
-  -- some pairs do, the first ones, and maybe none
+  -- some pairs move so, the first ones, or none
   abbrev pub SpreadsSome : BucketView K V → List (BucketView K V) → BucketView K V → List (BucketView K V) → Type 0
   SpreadsSome old buckets new after = (count : ℕ) × Spreads count old buckets new after
 
--- a number of 64 bits without its lower bits is the index
+-- the index is a 64-bit number without its lower bits
 abbrev pub IsShifted : ℕ → ℕ → ℕ → Type 0
 IsShifted shift number index = (number < 2 ^ 64) × (number / 2 ^ shift ≡ index)

@@ -1,16 +1,17 @@
-//! An array of buckets: each hash has its home among them, by its upper bits.
+//! An array of buckets. The upper bits of a hash are the index of its home.
 //!
-//! Model: the list of the buckets, in the order of the intervals of hashes that they are home to.
-//! Invariant (`IsArray`): the length is a power of two from 2 to 2^57, the stored offset shifts a
-//! hash to the index of its home, and the stored sample size is that of the length. Each digest
-//! that isn't lost is its bucket's (`AreDigests`).
+//! Model: the list of the buckets, in the order of their intervals of hashes. Invariant
+//! (`IsArray`): the length is a power of two from 2 to 2^57, the stored offset shifts a hash to the
+//! index of its home, and the stored sample size is that of the length. Each digest that isn't
+//! stale matches its bucket (`AreDigests`).
 //!
 //! Ports scc's `src/hash_table/bucket_array.rs`. The buckets are in vectors whose memory is
-//! allocated at once, and a bucket is made when it is first lent for writing. scc allocates zeroed
-//! raw memory, aligns it and writes data blocks into it.
+//! allocated at once, and a bucket is initialized when it is first lent for writing. scc allocates
+//! zeroed raw memory, aligns it and writes data blocks into it.
 //!
-//! What `digested`, `moving`, `walking` and `writing` export is public for `bucket_table` alone, as
-//! `settle`, `adopt_digests`, `start_digests`, `spread_own`, `release_into` and `release_around`.
+//! What `digested`, `moving`, `walking` and `writing` export is public only for `bucket_table`, as
+//! are `settle`, `adopt_digests`, `start_digests`, `spread_own`, `release_into` and
+//! `release_around`.
 ghost use Rattle.std.specs.Prelude.{◌≡◌, ◌*◌, ◌^◌, ◌<◌, ◌≤◌, ◌↔◌, IfOk, IsTrue, length};
 ghost use Rattle.std.specs.Borrow.{sem};
 ghost use Rattle.bucket_slots.specs.ArrayView.{IsNewArray, bucket_at};
@@ -41,7 +42,7 @@ use std::alloc::{AllocError, Global};
 use std::marker::Model;
 pub use writing::NotPut;
 
-/// Buckets of the kind `TYPE` with LRU lists `L`, each the home of an interval of hashes.
+/// Buckets of the kind `TYPE` with LRU lists `L`. Each is the home of an interval of hashes.
 #[derive(Drop)]
 pub struct BucketArray<K, V, L: LruList, const TYPE: u8> {
     hash_offset: u32,
@@ -65,17 +66,17 @@ impl<K, V, L: LruList, const TYPE: u8> Model for BucketArray<K, V, L, TYPE> {
 }
 
 impl<K: Drop, V: Drop, L: LruList + Drop, const TYPE: u8> BucketArray<K, V, L, TYPE> {
-    /// Returns an array for a capacity in slots, all of its buckets empty.
+    /// Returns an array for a capacity in slots, with all buckets empty.
     ///
-    /// Its slots are the least power of two that is at least the capacity, from 64 to 2^62. Buckets
-    /// and chains are allocated from `alloc`.
+    /// The number of slots is the least power of two that is at least the capacity, but at least 64
+    /// and at most 2^62. Buckets and chains are allocated from `alloc`.
     ///
     /// # Errors
     ///
     /// Allocation failed: nothing is kept. The memory of all buckets is allocated here, part by
-    /// part; more than four buckets are made later.
+    /// part; if there are more than four buckets, they are initialized later.
     ///
-    /// O(parts), which are 1,024 at most. scc: `BucketArray::new`.
+    /// O(parts); there are at most 1,024. scc: `BucketArray::new`.
     pub fn alloc(alloc: Global, capacity: usize) -> Result<Self, AllocError>
         ensures { IfOk result (IsNewArray capacity) }
     {
@@ -104,7 +105,7 @@ impl<K, V, L: LruList, const TYPE: u8> BucketArray<K, V, L, TYPE> {
         self.buckets.len()
     }
 
-    /// Returns the number of own slots of all buckets.
+    /// Returns the number of own slots in all buckets.
     ///
     /// O(1). scc: `BucketArray::num_slots`.
     pub fn num_slots(&self) -> usize
@@ -113,7 +114,7 @@ impl<K, V, L: LruList, const TYPE: u8> BucketArray<K, V, L, TYPE> {
         self.buckets.len() * BUCKET_LEN
     }
 
-    /// Returns the index of a hash's home: the hash's upper bits.
+    /// Returns the index of a hash's home, which is the upper bits of the hash.
     ///
     /// O(1), one shift. scc: `BucketArray::bucket_index`.
     #[inline(always)]
@@ -123,8 +124,8 @@ impl<K, V, L: LruList, const TYPE: u8> BucketArray<K, V, L, TYPE> {
         (hash >> self.hash_offset) as usize
     }
 
-    /// Returns whether an insertion under this hash samples the array: whether its low byte is a
-    /// multiple of the large sample size.
+    /// Returns whether an insertion under this hash samples the array, that is, whether the low
+    /// byte of the hash is a multiple of the large sample size.
     ///
     /// O(1). scc: `BucketArray::initiate_sampling`.
     pub fn initiate_sampling(&self, hash: u64) -> bool
@@ -133,7 +134,7 @@ impl<K, V, L: LruList, const TYPE: u8> BucketArray<K, V, L, TYPE> {
         (hash % 256) as u8 & (self.sample_size - 1) == 0
     }
 
-    /// Returns how many buckets a first estimate of the number of entries looks at.
+    /// Returns the number of buckets that a first estimate of the number of entries reads.
     ///
     /// O(1). scc: `BucketArray::small_sample_size`.
     pub fn small_sample_size(&self) -> usize
@@ -142,7 +143,7 @@ impl<K, V, L: LruList, const TYPE: u8> BucketArray<K, V, L, TYPE> {
         small_sample_size_of(self.buckets.len())
     }
 
-    /// Returns how many buckets an accurate estimate of the number of entries looks at.
+    /// Returns the number of buckets that an accurate estimate of the number of entries reads.
     ///
     /// O(1). scc: `BucketArray::large_sample_size`.
     pub fn large_sample_size(&self) -> usize
@@ -151,8 +152,8 @@ impl<K, V, L: LruList, const TYPE: u8> BucketArray<K, V, L, TYPE> {
         usize::from(self.sample_size)
     }
 
-    /// Returns how many buckets an estimate for a resize looks at: all, or 128 where there are
-    /// more.
+    /// Returns the number of buckets that an estimate for a resize reads: all of them, but at most
+    /// 128.
     ///
     /// O(1). scc: `BucketArray::full_sample_size`.
     pub fn full_sample_size(&self) -> usize
@@ -161,7 +162,7 @@ impl<K, V, L: LruList, const TYPE: u8> BucketArray<K, V, L, TYPE> {
         full_sample_size_of(self.buckets.len())
     }
 
-    /// Returns the bucket with an index.
+    /// Returns the bucket at `index`.
     ///
     /// O(1). scc: `BucketArray::bucket`.
     #[inline(always)]
@@ -172,9 +173,9 @@ impl<K, V, L: LruList, const TYPE: u8> BucketArray<K, V, L, TYPE> {
         self.buckets.get(index)
     }
 
-    /// Lends the bucket with an index for writing. No other bucket changes.
+    /// Lends the bucket at `index` for writing. No other bucket changes. The digest becomes stale.
     ///
-    /// O(1), but O(buckets of its part) if the bucket isn't made yet. Takes no memory. Own.
+    /// Allocates nothing. O(1), but O(buckets of its part) if the bucket isn't initialized yet.
     #[inline(always)]
     pub fn bucket_mut(&mut self, index: usize) -> &mut Bucket<K, V, L, TYPE>
         requires { index < length self.old }
@@ -188,7 +189,7 @@ impl<K, V, L: LruList, const TYPE: u8> BucketArray<K, V, L, TYPE> {
         self.buckets.get_mut(index)
     }
 
-    /// Returns the pairs of the own slots of the bucket with an index, including those of
+    /// Returns the row of pairs in the own slots of the bucket at `index`, including those of
     /// tombstones.
     ///
     /// O(1). scc: `BucketArray::data_block`.
@@ -209,7 +210,7 @@ impl<K, V, L: LruList, const TYPE: u8> BucketArray<K, V, L, TYPE> {
         MINIMUM_CAPACITY
     }
 
-    /// Returns whether more than 13 of 16 slots are taken.
+    /// Returns whether there are more entries than 13 for each 16 slots.
     ///
     /// O(1). scc: `HashTable::try_enlarge`.
     pub fn need_enlarge(capacity: usize, num_entries: usize) -> bool
@@ -218,7 +219,7 @@ impl<K, V, L: LruList, const TYPE: u8> BucketArray<K, V, L, TYPE> {
         sizing::need_enlarge(capacity, num_entries)
     }
 
-    /// Returns whether fewer than one of 8 slots is taken.
+    /// Returns whether there are fewer entries than one for each 8 slots.
     ///
     /// O(1). scc: `HashTable::try_shrink`.
     pub fn need_shrink(capacity: usize, num_entries: usize) -> bool
@@ -227,10 +228,9 @@ impl<K, V, L: LruList, const TYPE: u8> BucketArray<K, V, L, TYPE> {
         sizing::need_shrink(capacity, num_entries)
     }
 
-    /// Returns the capacity that fits a number of entries best, between a least and a greatest
-    /// capacity.
+    /// Returns the best capacity for a number of entries, between a minimum and a maximum capacity.
     ///
-    /// O(log of the greatest capacity). scc: `HashTable::try_resize`.
+    /// O(log of the maximum capacity). scc: `HashTable::try_resize`.
     pub fn optimal_capacity(
         capacity: usize,
         num_entries: usize,
@@ -245,10 +245,10 @@ impl<K, V, L: LruList, const TYPE: u8> BucketArray<K, V, L, TYPE> {
         sizing::optimal_capacity(capacity, num_entries, minimum_capacity, maximum_capacity)
     }
 
-    /// States that a bucket takes fewer than 2^63 bytes, and which lengths an array has; does
-    /// nothing at run time. Generic code calls it before a method of a bucket.
+    /// States that a bucket takes fewer than 2^63 bytes, and which lengths an array can have; does
+    /// nothing at run time. Generic code calls it before it calls a method of a bucket.
     ///
-    /// O(1). Own.
+    /// O(1).
     #[inline(always)]
     pub fn room(&self)
         ensures fits { BucketFits K.row V.row L.row TYPE.row

@@ -10,7 +10,7 @@ pub use Rattle.bucket_table.proofs.Views.Keeping.{keeps_both, keeps_same, kept_n
 -- a step of the map that follows one that keeps its pairs
 pub use Rattle.bucket_table.proofs.Map.Putting.{then_put}
 pub use Rattle.bucket_table.proofs.Scripts.CallSteps.{then_changed, there_before}
--- one bucket of the arrays is another: its place, the pairs and the marks of all
+-- one bucket of the arrays is replaced: its place, the pairs and the tombstones of all
 pub use Rattle.bucket_table.proofs.Map.LockedSteps.{put_there}
 pub use Rattle.bucket_table.proofs.Map.MapSteps.{set_again}
 pub use Rattle.bucket_table.proofs.Views.MarksKept.{marks_among-set}
@@ -18,12 +18,12 @@ pub use Rattle.bucket_table.proofs.Views.SideChanges.{homes_on, pairs_exchanged}
 -- which pairs have their home in a bucket, and how many
 pub use Rattle.bucket_table.proofs.Moves.HomesByDivision.{home_of-interval}
 pub use Rattle.bucket_table.proofs.Moves.MovingPairs.{homed-permutation, homed_here}
--- what stands in the rows of a chain, in a row of buckets, and what a walk is called with
+-- the contents of a chain's rows and of a row of buckets, and what a walk is called with
 pub use Rattle.bucket_table.proofs.Moves.Staying.{from_row, in_row}
 pub use Rattle.bucket_table.proofs.Walking.EachPair.{calls_same}
 pub use Rattle.bucket_table.proofs.Walking.Filters.{IsPermutation-filter}
 pub use Rattle.bucket_table.proofs.Walking.Row.{pairs_in_row}
--- when a table gives its array up
+-- when a table drops its array
 pub use Rattle.bucket_table.proofs.Resize.GivingUp.{gives_up_at_zero}
--- a table is sent and shared where its keys, values and hasher are
+-- a table may be sent and shared if its keys, values and hasher may
 pub use Rattle.bucket_table.proofs.Crosses.{HashTable-send, HashTable-sync}

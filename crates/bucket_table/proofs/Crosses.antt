@@ -1,4 +1,4 @@
--- Which tables may cross threads: as their keys, values, hasher and LRU lists may.
+-- Tables may cross threads if their keys, values, hasher and LRU lists may.
 use denote.RattleType.{RattleType}
 use denote.Param.Send.{IsSend, IsSync, sendable}
 use Rattle.std.specs.declared.cmp.PartialEq as equals

@@ -1,4 +1,4 @@
--- The pairs of one old bucket move on, and their order with them.
+-- The pairs of one old bucket move, and their order with them.
 pub mod Exchanges
 pub mod Vacating
 pub mod MarksLeft

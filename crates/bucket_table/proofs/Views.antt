@@ -1,4 +1,4 @@
--- What arrays keep where one bucket changes, and what they lend.
+-- What holds of arrays when one bucket changes, and what they lend.
 pub mod Keeping
 pub mod SettingsKept
 pub mod MarksKept

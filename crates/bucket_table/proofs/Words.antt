@@ -1,4 +1,4 @@
--- The words that most proofs use, from one place.
+-- The names that most proofs use, from one place.
 pub use Rattle.bucket_slots.proofs.ArrayNumbers.{scales}
 pub use Rattle.bucket_slots.proofs.MarksAfter.{by-no_new, by-trans, no_new-refl, no_new-trans}
 pub use Rattle.bucket_slots.proofs.PairsAfter.{length-entries_in, live_from_pair, live_not_free, map-entries_in, pairs_in-slots_vacated}

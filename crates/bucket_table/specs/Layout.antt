@@ -1,4 +1,4 @@
--- How fields hold a value, and how a relocation goes about it. No public clause cites a module below this one.
+-- How fields hold a value, and how a relocation works inside. No public clause cites these modules.
 pub mod TicketFields
 pub mod Moving
 pub mod Landings

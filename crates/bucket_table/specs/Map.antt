@@ -1,4 +1,4 @@
--- The map that a table is, and what a call by key does to it and to the arrays.
+-- The map that a table represents, and what a call by key does to it and to the arrays.
 pub mod MapState
 pub mod LookingUp
 pub mod ByKey

@@ -1,4 +1,4 @@
--- An old array: its tickets, its units, and how its pairs move on.
+-- An old array: its tickets, its units, and how its pairs move.
 pub mod State
 pub mod Steps
 pub mod Covered

@@ -1,4 +1,4 @@
--- When arrays get another length, and what becomes of them.
+-- When arrays get another length, and what happens to them.
 pub mod ResizePlan
 pub mod Sampling
 pub mod Resizing

@@ -1,4 +1,4 @@
--- What contracts see of arrays and of a table, what these keep and what they lend.
+-- What contracts see of arrays and of a table, what holds of them and what they lend.
 pub mod ArraysView
 pub mod Sides
 pub mod Locking

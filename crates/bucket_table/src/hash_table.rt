@@ -1,10 +1,10 @@
-//! A map from keys to values: a hasher, and the arrays of buckets, a current one and, during an
-//! incremental rehash, an old one.
+//! A map from keys to values: a hasher and the arrays of buckets. There is a current array and,
+//! during an incremental rehash, an old one.
 //!
-//! Model: `TableView`, the hasher and the arrays; the map is `pairs_of` the arrays.
-//! Invariant (`IsCountedMap`): `count` is the number of pairs, at most 2^64 - 1, and (`IsOneMap`)
-//! keys are distinct, each live pair of both arrays is in its home with its fingerprint, a killed
-//! bucket has no live pair, and no unit of the old array is forgotten.
+//! Model: `TableView`, the hasher and the arrays; the map is `pairs_of` the arrays. Invariant
+//! (`IsCountedMap`): `count` is the number of pairs, at most 2^64 - 1, and (`IsOneMap`) keys are
+//! distinct, each live pair of both arrays is in its home with its fingerprint, a killed bucket has
+//! no live pair, and no unit of the old array is lost.
 //!
 //! Ports scc's `src/hash_table.rs`. The table owns its arrays, and a lock is a borrow.
 ghost use Rattle.std.specs.Prelude.{◌≡◌, ◌↔◌, ◌<◌, ◌≤◌, ◌*◌, ◌^◌, [], IsTrue, MatchOption, length};
@@ -66,30 +66,32 @@ const _: () = prove!(MAXIMUM_CAPACITY_LIMIT == 9223372036854775808);
 pub enum NotInserted<K, V> {
     /// An equal key is in the map.
     Present(K, V),
-    /// Allocation failure.
+    /// Allocation failed.
     Memory(K, V),
 }
 
-/// The state of the home of an absent key, for a pair that is to be inserted there.
+/// What a search that found nothing learned about the home. An insertion of the key resumes from
+/// it.
 #[derive(Debug, Drop)]
 pub enum Vacancy {
-    /// Each of its sources is killed.
+    /// Each source of the home is killed.
     Ready,
     /// There is no array.
     NoArray,
-    /// Allocation failed for one of its sources.
+    /// Allocation failed for a source of the home.
     NoMemory,
 }
 
-/// When an insertion adds slots, and when a removal frees some. Own.
+/// The rule by which an insertion adds slots and a removal frees some.
 #[derive(Clone, Copy, Debug, Drop)]
 pub enum ResizeRule {
-    /// If the samples of a resize ask for it, as in scc.
+    /// Only if the samples of a resize call for it, as in scc.
     Sampled,
-    /// By the number of pairs too. Keys that come in the order of their hashes all go to a few
-    /// buckets, which no sample may see, so an insertion also doubles the slots for an overfull
-    /// home, as `HashTable::grow_if_overfull` says. A removal frees slots only if the pairs that
-    /// are left are less than an eighth of them too, and leaves at least two for each pair.
+    /// Also by the number of pairs. If keys come in the order of their hashes, they all go to a few
+    /// buckets, which may be outside every sample. So an insertion also doubles the slots for an
+    /// overfull home, as `HashTable::grow_if_overfull` does. A removal frees slots only if the
+    /// remaining pairs are also less than an eighth of them, and leaves at least two slots for each
+    /// pair.
     Counted,
 }
 
@@ -97,16 +99,15 @@ pub enum ResizeRule {
 ///
 /// A unit is 64 buckets of the old array. A call that works a unit first moves the pairs of the
 /// next 64 old buckets to the current array; without an old array it moves none. A call for a hash
-/// then also moves the pairs of the sources of the hash's home, the old buckets that share hashes
-/// with it. If allocation fails there, the pairs that haven't moved stay in the old array, where
-/// the call finds them too.
+/// then also moves the pairs of the sources of the hash's home, which are the old buckets that
+/// share hashes with it. If allocation fails there, the pairs that haven't moved stay in the old
+/// array, and the call finds them there.
 ///
-/// One unit is worked by each call by key or by a probe that borrows the table mutably, except
-/// `put_vacant`, and by `reader_sync`, `fetch_home`, `find`, `writer_sync`,
-/// `try_reserve_bucket`, `optional_writer_sync`, `num_entries` and `has_entry`. Walks and cursors
-/// work one before each bucket, and move the pairs of the bucket's sources. `finish_rehash` works
-/// all units. In costs, `unit` stands for the slots of the unit, of the sources and of their
-/// targets.
+/// These calls work one unit: each call by key or by a probe that borrows the table mutably, except
+/// `put_vacant`, and `reader_sync`, `fetch_home`, `find`, `writer_sync`, `try_reserve_bucket`,
+/// `optional_writer_sync`, `num_entries` and `has_entry`. Walks and cursors work one before each
+/// bucket, and move the pairs of the bucket's sources. `finish_rehash` works all units. In costs,
+/// `unit` means the slots of the unit, of the sources and of their targets.
 #[derive(Drop)]
 pub struct HashTable<K: Eq, V, H: KeyHash<K>, L: LruList, const TYPE: u8> {
     pub(crate) hasher: H,
@@ -127,10 +128,10 @@ impl<K: Eq, V, H: KeyHash<K>, L: LruList, const TYPE: u8> Model for HashTable<K,
 }
 
 impl<K: Eq, V, H: KeyHash<K>, L: LruList, const TYPE: u8> HashTable<K, V, H, L, TYPE> {
-    /// Returns a table with no array, and so no pair.
+    /// Returns an empty table without an array.
     ///
     /// `minimum` and `maximum` are numbers of slots. All memory of the table is allocated from
-    /// `alloc`. Takes no memory. O(1). Own.
+    /// `alloc`. Allocates nothing. O(1).
     pub fn new(alloc: Global, hasher: H, minimum: usize, maximum: usize) -> Self
         requires power { IsPowerOfTwo maximum }
         requires large { 64 ≤ maximum }
@@ -151,10 +152,10 @@ impl<K: Eq, V, H: KeyHash<K>, L: LruList, const TYPE: u8> HashTable<K, V, H, L, 
         }
     }
 
-    /// Returns a table with no array, and so no pair, that may shrink to none and grow as far as
-    /// tables do: its minimum is 0, and its maximum `MAXIMUM_CAPACITY_LIMIT`.
+    /// Returns an empty table without an array. Its minimum is 0, and its maximum is
+    /// `MAXIMUM_CAPACITY_LIMIT`, so it may shrink to no slots and grow as far as any table.
     ///
-    /// All memory of the table is allocated from `alloc`. Takes no memory. O(1). scc:
+    /// All memory of the table is allocated from `alloc`. Allocates nothing. O(1). scc:
     /// `HashMap::with_hasher`.
     pub fn with_hasher(alloc: Global, hasher: H) -> Self
         ensures hasher { result.hasher ≡ hasher }
@@ -180,7 +181,7 @@ impl<K: Eq, V, H: KeyHash<K>, L: LruList, const TYPE: u8> HashTable<K, V, H, L, 
 
     /// Returns the allocator of the table's memory.
     ///
-    /// O(1). Own.
+    /// O(1).
     pub fn allocator(&self) -> Global {
         self.arrays.allocator()
     }
@@ -194,7 +195,7 @@ impl<K: Eq, V, H: KeyHash<K>, L: LruList, const TYPE: u8> HashTable<K, V, H, L, 
         self.hasher.hash_one(key)
     }
 
-    /// Returns the least number of slots that a shrink leaves.
+    /// Returns the minimum, which is the least number of slots that a shrink leaves.
     ///
     /// O(1). scc: `HashTable::minimum_capacity`.
     pub fn minimum_capacity(&self) -> usize
@@ -203,7 +204,7 @@ impl<K: Eq, V, H: KeyHash<K>, L: LruList, const TYPE: u8> HashTable<K, V, H, L, 
         self.arrays.minimum()
     }
 
-    /// Returns the greatest number of slots that a growth makes.
+    /// Returns the maximum, which is the greatest number of slots that a growth makes.
     ///
     /// O(1). scc: `HashTable::maximum_capacity`.
     pub fn maximum_capacity(&self) -> usize
@@ -212,7 +213,7 @@ impl<K: Eq, V, H: KeyHash<K>, L: LruList, const TYPE: u8> HashTable<K, V, H, L, 
         self.arrays.maximum()
     }
 
-    /// Returns the current array; `None` where there is none.
+    /// Returns the current array, or `None` if there is none.
     ///
     /// O(1). scc: `HashTable::array`.
     pub fn array(&self) -> Option<&BucketArray<K, V, L, TYPE>>
@@ -222,7 +223,7 @@ impl<K: Eq, V, H: KeyHash<K>, L: LruList, const TYPE: u8> HashTable<K, V, H, L, 
         self.arrays.array()
     }
 
-    /// Returns the old array; `None` where no incremental rehash is under way.
+    /// Returns the old array, or `None` if no incremental rehash is under way.
     ///
     /// O(1). scc: `BucketArray::linked_array`.
     pub fn linked_array(&self) -> Option<&BucketArray<K, V, L, TYPE>>
@@ -232,7 +233,7 @@ impl<K: Eq, V, H: KeyHash<K>, L: LruList, const TYPE: u8> HashTable<K, V, H, L, 
         self.arrays.linked_array()
     }
 
-    /// Returns the index of a hash's home in the current array; 0 where there is no array.
+    /// Returns the index of a hash's home in the current array, or 0 if there is no array.
     ///
     /// O(1). scc: `HashTable::calculate_bucket_index`.
     pub fn calculate_bucket_index(&self, hash: u64) -> usize
@@ -246,8 +247,7 @@ impl<K: Eq, V, H: KeyHash<K>, L: LruList, const TYPE: u8> HashTable<K, V, H, L, 
         }
     }
 
-    /// Returns the number of slots of the current array's buckets, chains left out; 0 where there
-    /// is no array.
+    /// Returns the number of own slots in the current array, or 0 if there is no array.
     ///
     /// O(1). scc: `HashTable::num_slots`.
     pub fn num_slots(&self) -> usize
@@ -256,7 +256,7 @@ impl<K: Eq, V, H: KeyHash<K>, L: LruList, const TYPE: u8> HashTable<K, V, H, L, 
         self.arrays.len() * BUCKET_LEN
     }
 
-    /// Tests whether there is an old array.
+    /// Returns whether there is an old array.
     ///
     /// O(1). scc: `BucketArray::has_linked_array`.
     pub fn has_linked_array(&self) -> bool
@@ -265,8 +265,8 @@ impl<K: Eq, V, H: KeyHash<K>, L: LruList, const TYPE: u8> HashTable<K, V, H, L, 
         self.arrays.has_old()
     }
 
-    /// Returns the rehash word: 2048 times the next unit to hand out, and the number of open
-    /// tickets, at most 2047; `None` where there is no old array.
+    /// Returns the rehash word, which is 2048 times the next unit to issue plus the number of open
+    /// tickets (at most 2047), or `None` if there is no old array.
     ///
     /// O(1). scc: `BucketArray::rehashing_metadata`.
     pub fn rehashing_metadata(&self) -> Option<usize>
@@ -277,8 +277,8 @@ impl<K: Eq, V, H: KeyHash<K>, L: LruList, const TYPE: u8> HashTable<K, V, H, L, 
         self.arrays.word()
     }
 
-    /// States that the table is one map, that its current array, if there is one, has the length of
-    /// an array, and that an old array has a current one beside it; does nothing at run time. Own.
+    /// States that the table is one map, that the current array, if there is one, has the length of
+    /// an array, and that an old array exists only beside a current one; does nothing at run time.
     pub fn sound(&self)
         ensures one_map { IsOneMap K.eq (H.hash_of self.now.hasher) self.now.arrays }
         ensures long { 0 < length self.now.arrays.current

@@ -1,11 +1,11 @@
-//! A number of pairs that is counted up and down in two instructions.
+//! A count of pairs, which takes two instructions to increment or decrement.
 //!
-//! Model: ℕ, the number; 2^64 - 1 stands for as many pairs or more.
+//! Model: ℕ, the number of pairs; 2^64 - 1 means that there are at least as many.
 ghost use Rattle.std.specs.Prelude.{ℕ, ◌≡◌, ◌≢◌, ◌+◌, ◌-◌, ◌%◌, ◌^◌, ◌↔◌, IsTrue, min};
 
 use std::marker::Model;
 
-/// A number of pairs. `next` is one more, modulo 2^64, and 0 stands for too many pairs to count.
+/// A count of pairs. `next` is the count plus one, modulo 2^64; 0 means too many pairs to count.
 #[derive(Drop)]
 pub(crate) struct PairCount {
     next: usize,
@@ -18,7 +18,7 @@ impl Model for PairCount {
 }
 
 impl PairCount {
-    /// Returns this number.
+    /// Returns the count of `pairs` pairs.
     #[inline(always)]
     pub(crate) fn new(pairs: usize) -> PairCount
         ensures { result ≡ pairs }
@@ -28,7 +28,7 @@ impl PairCount {
         }
     }
 
-    /// Returns the number, at most 2^64 - 1.
+    /// Returns the number of pairs, at most 2^64 - 1.
     #[inline(always)]
     pub(crate) fn get(&self) -> usize
         ensures { result ≡ self.now }
@@ -36,7 +36,7 @@ impl PairCount {
         self.next.wrapping_sub(1)
     }
 
-    /// Counts one pair more.
+    /// Adds one pair to the count.
     #[inline(always)]
     pub(crate) fn step_up(&mut self)
         ensures { self.new ≡ min (self.old + 1) (2 ^ 64 - 1) }
@@ -45,7 +45,7 @@ impl PairCount {
         self.next = self.next.wrapping_add(more);
     }
 
-    /// Counts one pair less. Returns false if there were too many to count; the number is then
+    /// Subtracts one pair. Returns false if there were too many to count; the number is then
     /// unknown.
     #[inline(always)]
     pub(crate) fn step_down(&mut self) -> bool

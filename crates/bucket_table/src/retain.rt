@@ -1,4 +1,4 @@
-//! Removing the pairs of a bucket for which a test returns false.
+//! Removal of the pairs of a bucket for which a test returns false.
 ghost use Rattle.std.specs.Prelude.{◌≡◌, ◌≢◌, Some, IsTrue, ℕ, length};
 ghost use Rattle.bucket_slots.specs.BucketView.{slot_in};
 ghost use Rattle.bucket_slots.specs.Slots.{is_live, live_pair};
@@ -11,7 +11,7 @@ use bucket_slots::bucket::{BUCKET_LEN, Bucket, CACHE, EntryPtr, Generation, INDE
 use bucket_slots::lru::LruList;
 
 /// Removes each pair for which the test returns false; in an index it becomes a tombstone. Returns
-/// how many.
+/// how many were removed.
 #[tactic(auto, using(crate::proofs::Walking::Retaining::next_live))]
 pub(crate) fn retain_in<
     K: Drop,
@@ -37,8 +37,8 @@ pub(crate) fn retain_in<
     before - bucket.len()
 }
 
-/// Takes the pair out of a live slot, or makes it a tombstone in an index, if the test returns
-/// false.
+/// Removes the pair in a live slot if the test returns false. In an index the slot becomes a
+/// tombstone.
 #[inline(always)]
 fn retain_at<K: Drop, V: Drop, L: LruList, F: Fn(&K, &V) -> bool, G: Generation, const TYPE: u8>(
     bucket: &mut Bucket<K, V, L, TYPE>,
@@ -59,8 +59,9 @@ fn retain_at<K: Drop, V: Drop, L: LruList, F: Fn(&K, &V) -> bool, G: Generation,
     drop(take_at(bucket, at, generation));
 }
 
-/// Calls `keep` with each live pair, in slot order, its value lent for writing, and removes each
-/// pair for which it returns false; in an index it becomes a tombstone. Returns how many.
+/// Calls `keep` with each live pair, in slot order, with the value lent for writing, and removes
+/// each pair for which it returns false; in an index it becomes a tombstone. Returns how many were
+/// removed.
 #[tactic(auto, using(crate::proofs::Walking::Retaining::next_live))]
 pub(crate) fn retain_each_in<
     K: Drop,
@@ -88,9 +89,9 @@ pub(crate) fn retain_each_in<
     before - bucket.len()
 }
 
-/// Calls `keep` with the pairs of the own slots at once, if this kind of bucket has neither
-/// tombstones nor an LRU list, and drops each pair for which it returns false. Returns the pointer
-/// behind which the remaining pairs are.
+/// Calls `keep` with all pairs of the own slots, if this kind of bucket has neither tombstones nor
+/// an LRU list, and drops each pair for which it returns false. Returns the pointer after which the
+/// remaining pairs are.
 #[inline(always)]
 #[tactic(auto, unfolding(crate::specs::Walking::Retains::AsksFront))]
 fn retain_front<K: Drop, V: Drop, L: LruList, F: FnMut(&K, &mut V) -> bool, const TYPE: u8>(
@@ -113,8 +114,8 @@ fn retain_front<K: Drop, V: Drop, L: LruList, F: FnMut(&K, &mut V) -> bool, cons
     EntryPtr::own_slot(BUCKET_LEN - 1)
 }
 
-/// Calls a function with the pair in a live slot, its value lent for writing. If the answer isn't
-/// `keeps`, takes the pair out and returns it, or makes it a tombstone in an index.
+/// Calls a function with the pair in a live slot, with the value lent for writing. If the result
+/// isn't `keeps`, takes the pair out and returns it; in an index the slot becomes a tombstone.
 #[inline(always)]
 #[tactic(auto, using(crate::proofs::Walking::AskingSlot::stays_live))]
 pub(crate) fn ask_slot<
@@ -148,7 +149,7 @@ pub(crate) fn ask_slot<
     take_at(bucket, at, generation)
 }
 
-/// Takes the pair out of a live slot and returns it, or makes it a tombstone in an index.
+/// Takes the pair out of a live slot and returns it. In an index the slot becomes a tombstone.
 pub(crate) fn take_at<K: Drop, V: Drop, L: LruList, G: Generation, const TYPE: u8>(
     bucket: &mut Bucket<K, V, L, TYPE>,
     at: &mut EntryPtr<K, V, TYPE>,

@@ -1,4 +1,4 @@
-//! The tickets of one old array: which of its units are handed out.
+//! The tickets of one old array: which of its units are issued.
 ghost use Rattle.std.specs.Prelude.{◌≡◌, ◌+◌, ◌*◌, ◌/◌, ◌%◌, ◌^◌, ◌<◌, ◌≤◌, ℕ, length};
 ghost use Rattle.std.specs.Prelude.{IfOk, IsTrue, ◌↔◌, MatchOption, slice_index};
 ghost use Rattle.std.specs.List.{Contains};
@@ -8,16 +8,16 @@ ghost use Rattle.bucket_table.specs.Rehash.Steps.{Starts, Ends, IsOver};
 use std::alloc::{AllocError, Global};
 use std::marker::Model;
 
-/// How many old buckets a unit has. scc: `REHASHING_UNIT_LEN`.
+/// The number of old buckets in a unit. scc: `REHASHING_UNIT_LEN`.
 pub const REHASHING_UNIT_LEN: usize = 64;
 
-/// How many low bits of the rehash word count open tickets. scc: `REF_COUNT_BITS`.
+/// The number of low bits of the rehash word that count open tickets. scc: `REF_COUNT_BITS`.
 pub const REF_COUNT_BITS: u32 = 11;
 
-/// What a unit adds to the rehash word: one more than the number of tickets that can be open.
+/// How much a unit adds to the rehash word: one more than the greatest number of open tickets.
 pub const TICKET_STEP: usize = 1 << REF_COUNT_BITS;
 
-/// How many tickets can be open at a time.
+/// The greatest number of tickets that can be open at a time.
 const MAXIMUM_OPEN: usize = TICKET_STEP - 1;
 
 const _: () = prove!(REHASHING_UNIT_LEN == 64 && TICKET_STEP == 2048 && MAXIMUM_OPEN == 2047);
@@ -49,7 +49,11 @@ impl Model for Tickets {
 }
 
 impl Tickets {
-    /// Returns tickets with no unit handed out.
+    /// Returns tickets for an old array of `len` buckets, with no unit issued. O(1).
+    ///
+    /// # Errors
+    ///
+    /// Allocation of the list of open tickets failed.
     pub fn new(alloc: Global, len: usize) -> Result<Tickets, AllocError>
         requires { len ≤ 2 ^ 58 }
         ensures { IfOk result (λ tickets. tickets ≡ first_tickets len) }
@@ -62,7 +66,8 @@ impl Tickets {
         })
     }
 
-    /// Returns the tickets of no old array: no unit is handed out, and none will be.
+    /// Returns the tickets of a table without an old array: no unit is issued, and none will be.
+    /// Allocates nothing. O(1).
     pub fn none(alloc: Global) -> Tickets
         ensures { result ≡ first_tickets 0 }
     {
@@ -73,15 +78,15 @@ impl Tickets {
         }
     }
 
-    /// States that the position and the number of open tickets are within their bounds; does
-    /// nothing at run time.
+    /// States that the position and the number of open tickets are in their bounds; does nothing at
+    /// run time.
     pub fn sound(&self)
         ensures { IsTicketState self.now }
     {
         let _ = &self.position;
     }
 
-    /// Returns the rehash word.
+    /// Returns the rehash word: 2048 times the next unit to issue, plus the number of open tickets.
     pub fn word(&self) -> usize
         ensures word { result ≡ word_of self.now }
         ensures few { length self.now.open_units ≤ 2047 }
@@ -89,14 +94,15 @@ impl Tickets {
         self.position * TICKET_STEP + self.open_units.len()
     }
 
-    /// Tests whether no unit is left, neither open nor to hand out.
+    /// Returns whether no unit is open and none is left to issue.
     pub fn is_over(&self) -> bool
         ensures { IsTrue result ↔ IsOver self.now }
     {
         self.open_units.is_empty() && self.position * REHASHING_UNIT_LEN >= self.len
     }
 
-    /// Hands out the next unit, and returns its ticket.
+    /// Issues the next unit and returns its ticket, or `None` if no unit is left or too many are
+    /// open.
     pub fn start(&mut self) -> Option<usize>
         ensures { Starts self.old result self.new }
     {
@@ -109,7 +115,7 @@ impl Tickets {
         Some(unit * TICKET_STEP)
     }
 
-    /// Ends every ticket, so that each unit is to be handed out again.
+    /// Ends every ticket, so that each unit will be issued again.
     pub fn reset(&mut self)
         ensures { self.new ≡ first_tickets self.old.len }
     {
@@ -117,7 +123,11 @@ impl Tickets {
         self.position = 0;
     }
 
-    /// Ends a ticket, and returns whether the old array is to be dropped.
+    /// Ends a ticket, and returns whether the old array is to be dropped. O(open tickets).
+    ///
+    /// # Errors
+    ///
+    /// The ticket isn't open, or `success` is claimed but the unit isn't done: nothing changes.
     pub fn end(
         &mut self,
         ticket: usize,

@@ -1,4 +1,4 @@
--- The own slots of a bucket by use: the listed ones, and then the others, each once.
+-- The own slots of a bucket in order of use: the listed ones, then the others, each once.
 use Rattle.bucket_slots.proofs.Words.{All, All-append, All-cons, All-head, All-nil, All-tail, IsRecencyOrder, List, [], ap, append-nil}
 use Rattle.bucket_slots.proofs.Words.{append_assoc, arith, cases_Bool, cases_eq, false, inl, inr, is_listed, length, length-append}
 use Rattle.bucket_slots.proofs.Words.{ne_eqb, order_without, refl, replicate, set, subst, suc, sym, take, true}
@@ -11,7 +11,7 @@ use Rattle.bucket_slots.proofs.Recency.Orders.{eqb-flip, eqb-same, is_listed-ord
 use Rattle.bucket_slots.proofs.Recency.Orders.{older_order, order_turned, order_with, order_without-absent, split_at}
 use Rattle.bucket_slots.proofs.Recency.Taking.{set-order_and_zeros}
 
--- two slots are taken off in any order
+-- two slots may be removed in either order
 pub without_both : (order : List ℕ) (slot other : ℕ)
     → order_without (order_without order slot) other ≡ order_without (order_without order other) slot
 without_both [] slot other = refl
@@ -26,7 +26,7 @@ without_both (newest ∷ older) slot other = elim (cases_Bool (newest == slot)) 
   ]
 ]
 
--- a slot that is taken off may have stood anywhere
+-- a slot that is removed may have been anywhere
 without_one : (first rest : List ℕ) (slot : ℕ)
     → order_without (each_once (first ++ slot ∷ rest)) slot ≡ order_without (each_once (first ++ rest)) slot
 without_one [] rest slot =
@@ -40,7 +40,7 @@ without_one (newest ∷ older) rest slot =
       | inr isnt ↦ rw isnt (ap (λ (order : List ℕ). newest ∷ order) others)
     ]
 
--- a slot that stands earlier counts there alone
+-- a slot that occurs earlier counts only there
 once_again : (first rest : List ℕ) (slot : ℕ) → is_listed first slot ≡ true → each_once (first ++ slot ∷ rest) ≡ each_once (first ++ rest)
 once_again [] rest slot listed = absurd (false≢true listed)
 once_again (newest ∷ older) rest slot listed = elim (cases_eq slot newest) [
@@ -91,7 +91,7 @@ once_is_order (slot ∷ slots) below =
     order_with slot _ (All-head (λ slot. slot < 32) slot slots below) (is_listed-order_without (each_once slots) slot)
     (without_order (each_once slots) slot rest)
 
--- so many slots stand in the order by use at least
+-- the order of use has at least 32 slots
 once_long : (first : List ℕ) → All (λ slot. slot < 32) first → 32 ≤ length (slots_by_use 32 first)
 once_long [] below = omega arith
 once_long (slot ∷ slots) below =
@@ -108,7 +108,7 @@ list_any_flip : (slots : List ℕ) (slot : ℕ) → is_listed slots slot ≡ lis
 list_any_flip [] slot = refl
 list_any_flip (first ∷ slots) slot = rw (eqb-flip slot first, list_any_flip slots slot) refl
 
--- the slots so far stand in the bytes, and those from a slot on are still to come
+-- the slots so far are in the bytes, and those from a slot on are still to be added
 pub record AddsOthers (all bytes : List ℕ) (len from : ℕ) : Type 0 where
   pub taken : List ℕ
   pub is_order : IsRecencyOrder taken
@@ -141,7 +141,7 @@ module _ (all bytes : List ℕ) (len from : ℕ) (adds : AddsOthers all bytes le
         ∙ ap (λ (rest : List ℕ). each_once (adds.taken ++ rest)) (sym (next within)) ∙ adds.all_are;
   }
 
-  -- a slot that isn't listed has room, and is the last
+  -- there is room for a slot that isn't listed, and it becomes the last one
   module _ (within : from < 32) (absent : list_any (λ slot. slot == from) (take len bytes) ≡ false) where
     later : IsRecencyOrder (order_with_oldest adds.taken from)
     later = order_turned (from ∷ []) adds.taken (order_with from adds.taken within (asked false (sym absent)) adds.is_order)

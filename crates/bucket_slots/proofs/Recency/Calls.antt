@@ -1,4 +1,4 @@
--- What the calls of a recency list answer and leave, by what `unlink` and `link` leave.
+-- What the calls of an LRU list return and leave, given what `unlink` and `link` leave.
 use Rattle.bucket_slots.proofs.Words.{IsOwnTail, IsRecencyOrder, Links, LinksBefore, List, None, Some, Unlinks, UnlinksBehind, [], ap}
 use Rattle.bucket_slots.proofs.Words.{arith, cond-true, eq-eqb, eqb-false, false, is_listed, is_newest, length, links_of, or_parts}
 use Rattle.bucket_slots.proofs.Words.{order_after_touch, order_in, order_with_oldest, order_without, order_without_oldest, refl, slice_set}
@@ -65,7 +65,7 @@ removes_behind pairs left tail slot own apart unlinks =
     let same_tail = tail_of-order_without order tail slot own.names_newest behind in
     (rw behind refl, stores left tail (order_without order slot) (unlinks order own.links behind) same_tail)
 
--- the tail once the newest slot is gone: its older neighbour + 1, but where that is the slot itself
+-- the tail after the newest slot is removed: its older neighbour + 1, or 0 if that is the slot itself
 tail_of-older : (pairs : List (ℕ × ℕ)) (newest : ℕ) (older : List ℕ) (new_tail : ℕ) → Links pairs (newest ∷ older)
     → ((links_of pairs newest).1 ≡ newest → new_tail ≡ 0) → ((links_of pairs newest).1 ≢ newest → new_tail ≡ (links_of pairs newest).1 + 1)
     → new_tail ≡ tail_of older
@@ -133,7 +133,7 @@ appends_first pairs tail slot own is_zero in_range =
     let links : Links pairs [] = rw (← is_empty) own.links in
     rw is_empty (refl, stores (slice_set pairs slot (slot, slot)) (slot + 1) (slot ∷ []) (link_first pairs slot links in_range) refl)
 
--- in a circle the place before the newest slot is the one behind the oldest
+-- in a circle the place before the newest slot is the one after the oldest
 pub appends_behind : (pairs left : List (ℕ × ℕ)) (tail slot : ℕ) → IsOwnTail pairs tail → tail ≢ 0
     → is_listed (order_in pairs tail) slot ≡ false → LinksBefore pairs left (tail - 1) slot
     → (None ≡ appending_answer (order_in pairs tail) slot) × Stores left tail (order_with_oldest (order_in pairs tail) slot)

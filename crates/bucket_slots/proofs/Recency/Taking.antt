@@ -4,7 +4,7 @@ use Rattle.bucket_slots.proofs.Words.{replicate, set, set-append_seam, subst, su
 use Rattle.bucket_slots.specs.Recency.{order_and_zeros, removal_answer}
 use Rattle.bucket_slots.proofs.Recency.Orders.{eqb-same, length_at_most, newest_below, order_has_newest, order_without-newest}
 
--- so many of the newest slots of an order are taken, and stand in the bytes; the others are left
+-- the newest slots of an order, `len` of them, are taken and are in the bytes; the others are left
 pub record TakesOrder (all : List ℕ) (bytes : List ℕ) (len : ℕ) (left : List ℕ) : Type 0 where
   pub is_order : IsRecencyOrder all
   pub taken : List ℕ
@@ -20,7 +20,7 @@ set-order_and_zeros taken newest few =
     let later : 32 - length (taken ++ newest ∷ []) ≡ rest = omega (arith, length-append taken (newest ∷ [])) in
     rw (first, later, append_assoc taken (newest ∷ []) (replicate rest 0)) (set-append_seam taken 0 (replicate rest 0) newest)
 
--- the newest of the slots that are left is taken
+-- the newest of the remaining slots is taken
 pub record TakesNewest (all bytes : List ℕ) (len : ℕ) (left : List ℕ) (newest : ℕ) : Type 0 where
   pub has_room : len < 32
   pub own_slot : newest < 32

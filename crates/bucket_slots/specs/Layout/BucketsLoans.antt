@@ -1,4 +1,4 @@
--- What the buckets of an array end as, where one is lent for writing.
+-- What the buckets of an array are after a loan of one of them for writing.
 use Rattle.std.specs.Prelude.{ℕ, List, slice_set}
 use Rattle.std.specs.Borrow.{Lends, Fml, RattleType, MutBor}
 use Rattle.std.specs.declared.default.Default as default

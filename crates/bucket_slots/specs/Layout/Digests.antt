@@ -1,4 +1,4 @@
--- Digests of buckets, and what they say. No public clause cites this module.
+-- Digests of buckets, and what they record. No public clause cites this module.
 use Rattle.std.specs.Prelude.{ℕ, ◌-◌, ◌^◌, ◌<◌, ◌≤◌, ◌≡◌, ◌≢◌, ◌⊎◌, true, List, [], Some, length, slice_index_or}
 use Rattle.bucket_slots.specs.ArrayView.{bucket_at}
 use Rattle.bucket_slots.specs.BucketView.{BucketView}
@@ -15,27 +15,27 @@ pub record DigestLists : Type 0 where
   pub lives : List ℕ
   pub bytes : List (List ℕ)
 
--- the digest with an index; it says nothing past the end
+-- the digest at an index; it is stale past the end
 abbrev pub digest_at : DigestLists → ℕ → Digest
 digest_at lists index = record { live = slice_index_or lists.lives index (2 ^ 32 - 1); bytes = slice_index_or lists.bytes index [] }
 
--- a digest with all bits says nothing
+-- a digest whose bitmap is all ones is stale
 abbrev pub IsLost : Digest → Type 0
 IsLost digest = digest.live ≡ 2 ^ 32 - 1
 
--- from an index on nothing is said
+-- all digests from an index on are stale
 abbrev pub KnowsNone : ℕ → DigestLists → Type 0
 KnowsNone from digests = (index : ℕ) → from ≤ index → IsLost (digest_at digests index)
 
--- one digest alone changes
+-- only one digest changes
 abbrev pub ChangesOne : ℕ → DigestLists → DigestLists → Type 0
 ChangesOne index old new = (i : ℕ) → i ≢ index → digest_at new i ≡ digest_at old i
 
--- the digest is written down, or it says nothing
+-- the digest is stored, or it is stale
 abbrev pub Settles : ℕ → List ℕ → Digest → Type 0
 Settles live bytes digest = IsLost digest ⊎ (digest ≡ record { live = live; bytes = bytes })
 
--- the bitmap's bits are the live own slots, whose bytes are the digest's, and there is no chain
+-- the bits of the bitmap are the live own slots, the digest has their bytes, and there is no chain
 pub record IsDigest {K V : Type 0} (digest : Digest) (bucket : BucketView K V) : Type 0 where
   pub mask : IsMaskOf is_live bucket.own digest.live
   pub bytes : (pos : ℕ) → is_live (slot_at bucket.own pos) ≡ true
@@ -44,7 +44,7 @@ pub record IsDigest {K V : Type 0} (digest : Digest) (bucket : BucketView K V) :
   pub own_long : length bucket.own ≡ 32
   pub chainless : bucket.chain ≡ []
 
--- each digest that says something is its bucket's, and the array has more than four buckets
+-- each digest that isn't stale is that of its bucket, and then the array has more than four buckets
 abbrev pub AreDigests : {K V : Type 0} → DigestLists → List (BucketView K V) → Type 0
 AreDigests digests buckets =
     (index : ℕ) → (digest_at digests index).live ≢ 2 ^ 32 - 1

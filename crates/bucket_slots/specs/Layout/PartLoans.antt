@@ -1,4 +1,4 @@
--- What a part ends as, where a bucket in it is lent for writing.
+-- What a part is after a loan of a bucket in it for writing.
 use Rattle.std.specs.Prelude.{ℕ, List, slice_set}
 use Rattle.std.specs.Borrow.{Lends, Fml, RattleType, MutBor}
 use Rattle.std.specs.declared.default.Default as default

@@ -7,17 +7,17 @@ use Rattle.bucket_slots.specs.RecencyLinks.{Links, links_of}
 abbrev pub HoldsSlots : List (ℕ × ℕ) → Type 0
 HoldsSlots pairs = (slot : ℕ) → ((links_of pairs slot).0 < 32) × ((links_of pairs slot).1 < 32)
 
--- a listed slot leaves the circle: an order that the old pairs link is linked without it by the new ones
+-- a listed slot leaves the circle: if the old pairs link an order, the new pairs link it without that slot
 abbrev pub Unlinks : List (ℕ × ℕ) → List (ℕ × ℕ) → ℕ → Type 0
 Unlinks old new slot =
     (order : List ℕ) → Links old order → is_listed order slot ≡ true → Links new (order_without order slot)
 
--- a slot behind the newest leaves the circle, where it is listed
+-- a slot other than the newest leaves the circle, if it is listed
 abbrev pub UnlinksBehind : List (ℕ × ℕ) → List (ℕ × ℕ) → ℕ → Type 0
 UnlinksBehind old new slot =
     (order : List ℕ) → Links old order → is_newest order slot ≡ false → Links new (order_without order slot)
 
--- a slot that isn't listed is put before the newest one
+-- an unlisted slot is put before the newest one
 abbrev pub LinksBefore : List (ℕ × ℕ) → List (ℕ × ℕ) → ℕ → ℕ → Type 0
 LinksBefore old new newest slot =
     (order : List ℕ)
@@ -26,7 +26,7 @@ LinksBefore old new newest slot =
     → is_listed order slot ≡ false
     → Links new (slot ∷ order)
 
--- the answer tells of a slot behind the newest whether it is listed
+-- the result says whether a slot other than the newest is listed
 abbrev pub TellsListed : List (ℕ × ℕ) → ℕ → Bool → Type 0
 TellsListed pairs slot answer =
     (order : List ℕ) → Links pairs order → is_newest order slot ≡ false → answer ≡ is_listed order slot

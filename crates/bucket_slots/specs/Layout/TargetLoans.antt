@@ -1,4 +1,4 @@
--- What some buckets end as, where one of them is lent for writing.
+-- What some buckets are after a loan of one of them for writing.
 use Rattle.std.specs.Prelude.{ℕ, List, slice_set}
 use Rattle.std.specs.Borrow.{Array, Lends, Fml, RattleType, MutBor}
 use Rattle.std.specs.declared.default.Default as default

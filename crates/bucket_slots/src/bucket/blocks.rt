@@ -1,6 +1,6 @@
 //! Rows in boxed blocks, each of which owns the next.
 //!
-//! Model: the rows, the first one first. No invariant.
+//! Model: the list of rows, the first one first. No invariant.
 //!
 //! Ports the links of `LinkedBucket` in scc's `src/hash_table/bucket.rs`.
 ghost use Rattle.std.specs.Prelude.{◌≡◌, ◌≤◌, ◌<◌, ◌^◌, ◌∷◌, ◌++◌, [], IfSome, IfNone, OnOk};
@@ -14,13 +14,13 @@ use std::alloc::{AllocError, Global};
 use std::marker::Model;
 use std::mem::replace;
 
-/// Rows, the first one first.
+/// A list of rows in boxed blocks.
 #[cycle(blocks)]
 pub(super) struct Blocks<T> {
     pub(super) first: Option<Box<Block<T>>>,
 }
 
-/// A row and those behind it.
+/// A row and the blocks after it.
 #[cycle(blocks)]
 #[derive(Drop)]
 pub(super) struct Block<T> {
@@ -57,7 +57,7 @@ impl<T: Drop> Drop for Blocks<T> {
 }
 
 impl<T> Block<T> {
-    /// Returns the row and the blocks behind it.
+    /// Returns the row and the blocks after it.
     pub(super) fn into_parts(self) -> (T, Blocks<T>)
         ensures { self ≡ record { row = result.0; next = result.1 } }
     {
@@ -67,7 +67,7 @@ impl<T> Block<T> {
 }
 
 impl<T> Blocks<T> {
-    /// Returns no blocks. Takes no memory.
+    /// Returns an empty list. Allocates nothing.
     pub(super) fn new() -> Self
         ensures { result ≡ [] }
     {
@@ -82,7 +82,7 @@ impl<T> Blocks<T> {
         first
     }
 
-    /// Returns the blocks behind the first `count`; none where there are no more.
+    /// Returns the blocks after the first `count`, or an empty list if there are no more.
     pub(super) fn rest(&self, count: usize) -> &Self
         ensures { result.now ≡ drop count self.now }
     {
@@ -96,7 +96,7 @@ impl<T> Blocks<T> {
         at
     }
 
-    /// Returns a row.
+    /// Returns the row at `index`.
     pub(super) fn row(&self, index: usize) -> &T
         requires { index < length self.now }
         ensures { result.now ≡ slice_index_or self.now index result.now }
@@ -107,7 +107,7 @@ impl<T> Blocks<T> {
         }
     }
 
-    /// Lends a row for writing.
+    /// Lends the row at `index` for writing.
     pub(super) fn row_mut(&mut self, index: usize) -> &mut T
         requires within { index < length self.old }
         requires few { index < 2 ^ 28 }
@@ -120,7 +120,7 @@ impl<T> Blocks<T> {
 }
 
 impl<T: Drop> Blocks<T> {
-    /// Puts a block in front.
+    /// Puts a block at the front.
     pub(super) fn push(&mut self, mut block: Box<Block<T>>)
         ensures { self.new ≡ block.value.row ∷ self.old }
     {
@@ -128,7 +128,7 @@ impl<T: Drop> Blocks<T> {
         self.first = Some(block);
     }
 
-    /// Takes the first block out.
+    /// Removes the first block and returns it.
     pub(super) fn pop(&mut self) -> Option<Box<Block<T>>>
         ensures some { IfSome result (λ block. self.old ≡ block.value.row ∷ self.new) }
         ensures none { IfNone result (self.old ≡ []) }
@@ -140,7 +140,7 @@ impl<T: Drop> Blocks<T> {
         Some(block)
     }
 
-    /// Puts a row in front.
+    /// Puts a row at the front.
     ///
     /// # Errors
     ///
@@ -160,7 +160,7 @@ impl<T: Drop> Blocks<T> {
         Ok(())
     }
 
-    /// Returns the blocks in the other order.
+    /// Returns the blocks in reverse order.
     pub(super) fn reversed(mut self) -> Self
         ensures { result ≡ reverse self }
     {
@@ -171,7 +171,7 @@ impl<T: Drop> Blocks<T> {
         turned
     }
 
-    /// Puts rows behind the last one.
+    /// Puts rows after the last one.
     pub(super) fn append(&mut self, len: usize, more: Blocks<T>)
         requires counted { len ≡ length self.old }
         requires few { len < 2 ^ 28 }
@@ -181,7 +181,7 @@ impl<T: Drop> Blocks<T> {
         *link = more.into_first();
     }
 
-    /// Drops the rows behind the first `count`.
+    /// Drops the rows after the first `count`.
     pub(super) fn truncate(&mut self, count: usize)
         requires within { count ≤ length self.old }
         requires few { count < 2 ^ 28 }
@@ -192,15 +192,15 @@ impl<T: Drop> Blocks<T> {
     }
 }
 
-/// A walk down some blocks. A function that returns a mutable reference can't be proved if it calls
-/// itself, so a walk is made of two shorter ones of another type.
+/// A walk past some blocks. A function that returns a mutable reference can't be proved if it calls
+/// itself, so a walk consists of two shorter ones of another type.
 pub(super) trait Walk {
     ghost use Rattle.std.specs.Prelude.{ℕ};
 
-    /// The greatest number of blocks that it passes.
+    /// The greatest number of blocks that it can pass.
     ghost reach: { ℕ };
 
-    /// Lends the option that owns the block behind the first `count`.
+    /// Lends the option that owns the block after the first `count`.
     fn walk<T>(blocks: &mut Blocks<T>, count: usize) -> &mut Option<Box<Block<T>>>
         requires within { count ≤ length blocks.old }
         requires reached { count ≤ Self.reach }
@@ -208,7 +208,7 @@ pub(super) trait Walk {
         ensures rest { rows_of result.now ≡ drop count blocks.old };
 }
 
-/// The walk past no block.
+/// The walk that passes no block.
 pub(super) struct Here;
 
 /// A walk, then one block, then the walk again.
@@ -217,7 +217,7 @@ pub(super) struct Twice<W>(W);
 /// A walk doubled four times.
 pub(super) type Longer<W> = Twice<Twice<Twice<Twice<W>>>>;
 
-/// The walk of fewer than 2^28 blocks. Its calls are nested at most 28 deep.
+/// A walk past fewer than 2^28 blocks. Its calls are nested at most 28 deep.
 pub(super) type Far = Longer<Longer<Longer<Longer<Longer<Longer<Longer<Here>>>>>>>;
 
 impl Walk for Here {
@@ -244,7 +244,7 @@ impl<W: Walk> Walk for Twice<W> {
     }
 }
 
-/// Lends the blocks behind a first block.
+/// Lends the blocks after a first block.
 fn next_in<T>(first: &mut Option<Box<Block<T>>>) -> &mut Blocks<T>
     requires { 0 < length (rows_of first.old) }
     ensures* writes_back { sem 𝓛 (LendsNext T.row first.entry result) }
@@ -256,7 +256,7 @@ fn next_in<T>(first: &mut Option<Box<Block<T>>>) -> &mut Blocks<T>
     }
 }
 
-/// Lends the blocks behind a block.
+/// Lends the blocks after a block.
 fn next_of<T>(block: &mut Box<Block<T>>) -> &mut Blocks<T>
     ensures* writes_back { sem 𝓛 (LendsNextOf T.row block.entry result) }
     ensures rest { result.now ≡ block.old.value.next }

@@ -1,4 +1,4 @@
-//! The own slots of a bucket by use.
+//! The own slots of a bucket in order of use.
 ghost use Rattle.std.specs.Prelude.{◌≡◌};
 ghost use Rattle.bucket_slots.specs.ByUse.{slots_by_use};
 ghost use Rattle.bucket_slots.specs.Places.{pair_lent};
@@ -9,9 +9,9 @@ use crate::bucket::{BUCKET_LEN, Bucket};
 use crate::lru::{DoublyLinkedList, LruList};
 
 impl<K, V, L: LruList, const TYPE: u8> Bucket<K, V, L, TYPE> {
-    /// Returns the pair of an own slot; `None` where the slot isn't live.
+    /// Returns the pair of an own slot, or `None` if the slot isn't live.
     ///
-    /// O(1). Own.
+    /// O(1).
     #[inline(always)]
     pub fn own_pair(&self, pos: usize) -> Option<(&K, &V)>
         ensures { pair_lent result ≡ live_pair (slot_at self.now.own pos) }
@@ -30,10 +30,10 @@ impl<K, V, L: LruList, const TYPE: u8> Bucket<K, V, L, TYPE> {
 }
 
 impl<K, V, const TYPE: u8> Bucket<K, V, DoublyLinkedList, TYPE> {
-    /// Returns the own slots by use: the listed ones, newest first, and then the others in slot
-    /// order.
+    /// Returns the own slots in order of use: the listed ones, newest first, then the others in
+    /// slot order.
     ///
-    /// Changes nothing, and takes no memory. O(1), since the number of own slots is fixed. Own.
+    /// Changes and allocates nothing. O(1), since the number of own slots is fixed.
     pub fn slots_by_use(&self) -> [u8; BUCKET_LEN]
         ensures { result ≡ slots_by_use 32 self.now.listed }
     {

@@ -1,31 +1,28 @@
-//! Probes: tests of keys that count how often they are asked. A look-up uses one in code without
-//! `K: Eq`.
-//!
-//! Own.
+//! Probes: tests of keys that count how often they are asked. Look-ups without `K: Eq` take one.
 ghost use Rattle.std.specs.Prelude.{◌≡◌, ◌+◌, ◌-◌, ◌^◌, ℕ, Bool, min};
 
 use std::cmp::Eq;
 use std::marker::Model;
 
-/// A test of keys that counts how often it was asked. Own.
+/// A test of keys that counts how often it was asked.
 pub trait KeyProbe<K> {
-    /// Which keys it wants.
+    /// Which keys it matches.
     ghost wants: { Self → K → Bool };
 
     /// How often it was asked.
     ghost asked: { Self → ℕ };
 
-    /// Returns whether it wants this key, and counts the question, up to 2^64 - 1. Which keys it
-    /// wants doesn't change.
+    /// Returns whether it matches this key, and counts the question, up to 2^64 - 1. Which keys it
+    /// matches doesn't change.
     fn same(&mut self, key: &K) -> bool
         ensures answer { result ≡ wants self.old key.now }
         ensures counted { asked self.new ≡ min (asked self.old + 1) (2 ^ 64 - 1) }
         ensures fixed { wants self.new ≡ wants self.old };
 }
 
-/// Wants the keys that are equal to its own.
+/// A probe that matches the keys that are equal to its own.
 ///
-/// Model: `KeyAsked`, its key and how often it was asked. Own.
+/// Model: `KeyAsked`, its key and how often it was asked.
 #[derive(Drop)]
 pub struct EqProbe<'k, K: Eq> {
     key: &'k K,
@@ -41,9 +38,9 @@ impl<'k, K: Eq> Model for EqProbe<'k, K> {
 }
 
 impl<'k, K: Eq> EqProbe<'k, K> {
-    /// Returns a probe that wasn't asked yet.
+    /// Returns a probe that hasn't been asked yet.
     ///
-    /// O(1). Own.
+    /// O(1).
     pub fn new(key: &'k K) -> Self
         ensures key { result.key ≡ key.now }
         ensures asked { result.asked ≡ 0 }
@@ -53,7 +50,7 @@ impl<'k, K: Eq> EqProbe<'k, K> {
 
     /// Returns how often it was asked, up to 2^64 - 1.
     ///
-    /// O(1). Own.
+    /// O(1).
     pub fn asked(&self) -> u64
         ensures { result ≡ self.now.asked }
     {

@@ -8,10 +8,10 @@ use crate::bucket::{Bucket, EntryPtr};
 use crate::lru::LruList;
 
 impl<K: Drop, V: Drop, L: LruList, const TYPE: u8> Bucket<K, V, L, TYPE> {
-    /// Replaces the pair in a live slot by another one, under `hash`, and returns the earlier one.
-    /// The slot leaves the LRU list.
+    /// Replaces the pair in a live slot by another one, under `hash`, and returns the previous
+    /// pair. The slot leaves the LRU list.
     ///
-    /// Takes no memory. O(1) in the own slots, else O(blocks in the chain). Own.
+    /// Allocates nothing. O(1) in the own slots, else O(blocks in the chain).
     #[inline(always)]
     pub fn replace(&mut self, at: &EntryPtr<K, V, TYPE>, hash: u64, pair: (K, V)) -> (K, V)
         requires live_slot { IsTrue (is_live (slot_in self.old at.now)) }

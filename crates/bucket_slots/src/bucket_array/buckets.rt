@@ -1,12 +1,11 @@
-//! The buckets of an array: in parts of equal length, each bucket made when it is first lent for
-//! writing. A short array, of at most four buckets, has no parts: one vector holds its buckets, all
-//! made at once.
+//! The buckets of an array, in parts of equal length. A bucket is initialized when it is first lent
+//! for writing. A short array, of at most four buckets, has no parts: one vector holds its buckets,
+//! which are all initialized at once.
 //!
-//! Model: the list of the buckets. Invariant (`AreBuckets`): the length is stored. Each part has as
-//! many buckets as the stored bits say, and beside the parts are an empty bucket and a killed one,
-//! as which the buckets that aren't made are read. In a short array its buckets are there instead.
-//!
-//! Own.
+//! Model: the list of the buckets. Invariant (`AreBuckets`): the length is stored. Each part has
+//! the number of buckets that the stored bits give. Beside the parts are an empty bucket and a
+//! killed one; a bucket that isn't initialized reads as one of these. A short array has its buckets
+//! in their place.
 ghost use Rattle.std.specs.Prelude.{◌≡◌, ◌≢◌, ℕ, ◌+◌, ◌-◌, ◌<◌, ◌≤◌, ◌^◌, ◌%◌, [], Some, true};
 ghost use Rattle.std.specs.Prelude.{◌↔◌, IfOk, IfSome, IsTrue, length, option_map, replicate};
 ghost use Rattle.std.specs.Prelude.{slice_set};
@@ -31,7 +30,7 @@ use crate::lru::LruList;
 use std::alloc::{AllocError, Global};
 use std::marker::Model;
 
-/// The greatest number of buckets of a short array.
+/// The greatest number of buckets in a short array.
 const SHORT_LEN: usize = 4;
 
 /// The buckets of an array.
@@ -57,7 +56,7 @@ impl<K, V, L: LruList, const TYPE: u8> Model for Buckets<K, V, L, TYPE> {
         × (buckets.part_mask ≡ 2 ^ buckets.part_bits - 1) };
 }
 
-/// The slice of the buckets beside the parts states that a bucket fits in memory.
+/// Taking the slice of the buckets beside the parts states that a bucket fits in memory.
 impl<K: Drop, V: Drop, L: LruList + Drop, const TYPE: u8> Drop for Buckets<K, V, L, TYPE> {
     fn drop(self) {
         let Buckets {
@@ -74,7 +73,7 @@ impl<K: Drop, V: Drop, L: LruList + Drop, const TYPE: u8> Drop for Buckets<K, V,
 }
 
 impl<K: Drop, V: Drop, L: LruList + Drop, const TYPE: u8> Buckets<K, V, L, TYPE> {
-    /// Returns `len` empty buckets, none of them made but in a short array.
+    /// Returns `len` empty buckets. In a short array all are initialized, otherwise none.
     ///
     /// # Errors
     ///
@@ -122,7 +121,7 @@ impl<K, V, L: LruList, const TYPE: u8> Buckets<K, V, L, TYPE> {
         self.len
     }
 
-    /// Tests whether the array is short, with at most four buckets.
+    /// Returns whether the array is short, with at most four buckets.
     #[inline(always)]
     pub(crate) fn is_short(&self) -> bool
         ensures { IsTrue result ↔ (length self.now ≤ 4) }
@@ -139,7 +138,7 @@ impl<K, V, L: LruList, const TYPE: u8> Buckets<K, V, L, TYPE> {
         let _ = self.beside.as_slice();
     }
 
-    /// Returns the bucket with an index.
+    /// Returns the bucket at `index`.
     #[inline(always)]
     pub(crate) fn get(&self, index: usize) -> &Bucket<K, V, L, TYPE>
         requires { index < length self.now }
@@ -153,8 +152,8 @@ impl<K, V, L: LruList, const TYPE: u8> Buckets<K, V, L, TYPE> {
         self.parts[part].bucket(offset, &self.beside)
     }
 
-    /// Lends the bucket with an index for writing. If it isn't made yet, it is made first, with
-    /// those before it in its part.
+    /// Lends the bucket at `index` for writing. If it isn't initialized yet, it and those before it
+    /// in its part are initialized first.
     #[inline(always)]
     pub(crate) fn get_mut(&mut self, index: usize) -> &mut Bucket<K, V, L, TYPE>
         requires { index < length self.old }
@@ -187,7 +186,8 @@ impl<K, V, L: LruList, const TYPE: u8> Buckets<K, V, L, TYPE> {
         held.bucket_mut(offset)
     }
 
-    /// Returns a bucket with a live own slot, which is always made, of an array that isn't short.
+    /// Returns a bucket with a live own slot, which is always initialized, in an array that isn't
+    /// short.
     #[inline(always)]
     pub(crate) fn made(&self, index: usize) -> &Bucket<K, V, L, TYPE>
         requires long { 4 < length self.now }
@@ -201,8 +201,8 @@ impl<K, V, L: LruList, const TYPE: u8> Buckets<K, V, L, TYPE> {
         self.parts[part].made_bucket(offset)
     }
 
-    /// Lends a bucket with a live own slot, which is always made, for writing, of an array that
-    /// isn't short.
+    /// Lends a bucket with a live own slot, which is always initialized, for writing, in an array
+    /// that isn't short.
     #[inline(always)]
     pub(crate) fn made_mut(&mut self, index: usize) -> &mut Bucket<K, V, L, TYPE>
         requires long { 4 < length self.old }
@@ -221,9 +221,9 @@ impl<K, V, L: LruList, const TYPE: u8> Buckets<K, V, L, TYPE> {
         held.made_bucket_mut(offset)
     }
 
-    /// Returns the place and the pair of the first wanted slot of a bucket with no chain, given the
-    /// live own slots with the hash's fingerprint, in an array that isn't short. If there is none,
-    /// no bucket is read.
+    /// Returns the place and the pair of the first matching slot of a bucket without a chain, in an
+    /// array that isn't short. `candidates` is the bitmap of the live own slots with the hash's
+    /// fingerprint. If it is 0, no bucket is read.
     #[inline(always)]
     pub(crate) fn find_among<P: KeyProbe<K>>(
         &self,
@@ -275,8 +275,8 @@ impl<K: Drop, V: Drop, L: LruList, const TYPE: u8> Buckets<K, V, L, TYPE> {
         self.made_mut(index).remove(&mut at)
     }
 
-    /// Puts a live pair into the lowest free own slot of a bucket, given the live ones, in an array
-    /// that isn't short, and returns its position.
+    /// Puts a live pair into the lowest free own slot of a bucket, in an array that isn't short,
+    /// and returns its position. `lives` is the bitmap of the live own slots.
     #[inline(always)]
     pub(crate) fn fill(&mut self, index: usize, lives: u32, byte: u8, pair: (K, V)) -> u32
         requires not_index { TYPE ≢ INDEX }
@@ -294,7 +294,7 @@ impl<K: Drop, V: Drop, L: LruList, const TYPE: u8> Buckets<K, V, L, TYPE> {
     }
 
     /// Moves pairs of own slots of a bucket to `len` buckets from `start` on, as
-    /// `Bucket::spread_own` does; none if the part of the first one ends before.
+    /// `Bucket::spread_own` does. Moves none if the part of the first one ends before the last.
     #[inline(always)]
     pub(crate) fn spread<F: Fn(&K) -> u64>(
         &mut self,
@@ -311,7 +311,7 @@ impl<K: Drop, V: Drop, L: LruList, const TYPE: u8> Buckets<K, V, L, TYPE> {
         ensures spreads { SpreadsSome TYPE (λ key answer. F.post hash_of.now key answer)
             (IsShifted shift) 0 source.old self.old source.new self.new }
 
-        // The buckets before the first one stay.
+        // The buckets before the first one stay the same.
         ensures front { (i : ℕ) → i < start → bucket_at self.new i ≡ bucket_at self.old i }
     {
         self.room();
@@ -358,8 +358,8 @@ impl<K: Drop, V: Drop, L: LruList, const TYPE: u8> Buckets<K, V, L, TYPE> {
 }
 
 impl<K: Drop, V: Drop, L: LruList + Drop, const TYPE: u8> Buckets<K, V, L, TYPE> {
-    /// Frees the buckets of the part around a bucket, if every one is killed and empty, and the
-    /// part is longer than the least length. No bucket changes.
+    /// Frees the buckets of the part around a bucket, if all are killed and empty, and the part is
+    /// longer than the least length. No bucket changes.
     pub(crate) fn release(&mut self, index: usize)
         requires { index < length self.old }
         ensures { self.new ≡ self.old }
@@ -372,10 +372,10 @@ impl<K: Drop, V: Drop, L: LruList + Drop, const TYPE: u8> Buckets<K, V, L, TYPE>
         self.parts[part].release();
     }
 
-    /// Frees the buckets of the part around a bucket, if every one is killed and empty, and
-    /// exchanges their memory with that of a part of equal length of another array in which no
-    /// bucket is made: the first among a few that pairs move to next. Returns whether there is such
-    /// a part. No bucket changes.
+    /// Frees the buckets of the part around a bucket, if all are killed and empty, and exchanges
+    /// their memory with that of a part of equal length of another array in which no bucket is
+    /// initialized: the first one among a few parts that pairs move to next. Returns whether there
+    /// is such a part. No bucket changes.
     pub(crate) fn release_into(&mut self, index: usize, to: &mut Self) -> bool
         requires { index < length self.old }
         ensures kept { self.new ≡ self.old }

@@ -1,6 +1,4 @@
 //! Calls on a bucket of an array that read its digest first.
-//!
-//! Own.
 ghost use Rattle.std.specs.Prelude.{◌≡◌, ◌%◌, ◌+◌, ◌<◌, ◌≤◌, Some, IsTrue, length, slice_set};
 ghost use Rattle.std.specs.Borrow.{sem};
 ghost use Rattle.bucket_slots.specs.ArrayView.{bucket_at};
@@ -22,7 +20,7 @@ impl<K, V, L: LruList, const TYPE: u8> BucketArray<K, V, L, TYPE> {
 
     /// Returns what `Bucket::peek_entry_by` returns.
     ///
-    /// O(1), but O(blocks in the chain) if the digest is lost.
+    /// O(1), but O(blocks in the chain) if the digest is stale.
     #[inline(always)]
     pub fn peek_by<P: KeyProbe<K>>(
         &self,
@@ -45,7 +43,7 @@ impl<K, V, L: LruList, const TYPE: u8> BucketArray<K, V, L, TYPE> {
         Some((key, value))
     }
 
-    /// Tests whether a bucket's digest shows that it has fewer than `len` live slots.
+    /// Returns whether a bucket's digest shows that it has fewer than `len` live slots.
     ///
     /// O(1).
     #[inline(always)]
@@ -56,7 +54,7 @@ impl<K, V, L: LruList, const TYPE: u8> BucketArray<K, V, L, TYPE> {
         self.digests.live(index).count_ones() < len
     }
 
-    /// Tests whether the array has at most four buckets, which have no digests, and a bucket has
+    /// Returns whether the array has at most four buckets, which have no digests, and a bucket has
     /// fewer than `len` live slots.
     ///
     /// O(1).
@@ -94,9 +92,9 @@ impl<K, V, L: LruList, const TYPE: u8> BucketArray<K, V, L, TYPE> {
         Some(at)
     }
 
-    /// Lends the pair in a live slot of a bucket, its value for writing. The digest stays.
+    /// Lends the pair in a live slot of a bucket, with its value for writing. The digest stays.
     ///
-    /// Takes no memory. O(1), but O(blocks in the chain) for a slot there.
+    /// Allocates nothing. O(1), but O(blocks in the chain) for a slot there.
     #[inline(always)]
     pub fn entry_mut(&mut self, index: usize, at: &EntryPtr<K, V, TYPE>) -> (&K, &mut V)
         requires within { index < length self.old }
@@ -114,7 +112,7 @@ impl<K, V, L: LruList, const TYPE: u8> BucketArray<K, V, L, TYPE> {
 
     /// Makes the pair in a live slot the one touched last in its bucket. The digest stays.
     ///
-    /// Takes no memory. O(1).
+    /// Allocates nothing. O(1).
     #[inline(always)]
     pub fn touch(&mut self, index: usize, at: &EntryPtr<K, V, TYPE>)
         requires cache { TYPE ≡ CACHE }
@@ -127,10 +125,10 @@ impl<K, V, L: LruList, const TYPE: u8> BucketArray<K, V, L, TYPE> {
         self.buckets.get_mut(index).update_lru_tail(at);
     }
 
-    /// Makes the pair in a live slot the one touched last in its bucket, and lends it, its value
-    /// for writing. The digest stays.
+    /// Makes the pair in a live slot the one touched last in its bucket, and lends it, with its
+    /// value for writing. The digest stays.
     ///
-    /// Takes no memory. O(1), but O(blocks in the chain) for a slot there.
+    /// Allocates nothing. O(1), but O(blocks in the chain) for a slot there.
     #[inline(always)]
     pub fn touch_entry_mut(&mut self, index: usize, at: &EntryPtr<K, V, TYPE>) -> (&K, &mut V)
         requires cache { TYPE ≡ CACHE }
@@ -152,10 +150,10 @@ impl<K, V, L: LruList, const TYPE: u8> BucketArray<K, V, L, TYPE> {
         bucket.entry_mut(at)
     }
 
-    /// Writes a bucket's digest from what the bucket holds. No bucket changes. An array of at most
-    /// four buckets has no digests.
+    /// Rebuilds a bucket's digest from the bucket. No bucket changes. An array of at most four
+    /// buckets has no digests.
     ///
-    /// Takes no memory. O(own slots).
+    /// Allocates nothing. O(own slots).
     pub fn settle(&mut self, index: usize)
         requires { index < length self.old }
         ensures { self.new ≡ self.old }
@@ -168,7 +166,7 @@ impl<K, V, L: LruList, const TYPE: u8> BucketArray<K, V, L, TYPE> {
         self.digests.settle(index, live, bytes);
     }
 
-    /// Writes a bucket's digest if it is lost. No bucket changes.
+    /// Refreshes a bucket's digest if it is stale. No bucket changes.
     #[inline(always)]
     pub(super) fn heal(&mut self, index: usize)
         requires { index < length self.old }
@@ -179,10 +177,10 @@ impl<K, V, L: LruList, const TYPE: u8> BucketArray<K, V, L, TYPE> {
         }
     }
 
-    /// Takes over the memory of another array's digests and allocates what is missing. Its own
-    /// digests are then lost. No bucket changes.
+    /// Takes over the memory of another array's digests and allocates what is missing. All digests
+    /// of this array are then stale. No bucket changes.
     ///
-    /// Never fails: a digest without memory is lost. O(1).
+    /// Never fails: a digest without memory stays stale. O(1).
     pub fn adopt_digests(&mut self, alloc: Global, from: &mut Self)
         ensures own { self.new ≡ self.old }
         ensures other { from.new ≡ from.old }
@@ -192,9 +190,9 @@ impl<K, V, L: LruList, const TYPE: u8> BucketArray<K, V, L, TYPE> {
         self.digests = digests;
     }
 
-    /// Allocates the digests and writes them. No bucket changes.
+    /// Allocates the digests and builds them. No bucket changes.
     ///
-    /// Never fails: a digest without memory is lost. O(buckets).
+    /// Never fails: a digest without memory stays stale. O(buckets).
     pub fn start_digests(&mut self, alloc: Global)
         ensures { self.new ≡ self.old }
     {
@@ -204,7 +202,7 @@ impl<K, V, L: LruList, const TYPE: u8> BucketArray<K, V, L, TYPE> {
         }
     }
 
-    /// Allocates the digests, which are lost at first. No bucket changes.
+    /// Allocates the digests, all stale at first. No bucket changes.
     fn restart_digests(&mut self, alloc: Global)
         ensures { self.new ≡ self.old }
     {
@@ -212,8 +210,8 @@ impl<K, V, L: LruList, const TYPE: u8> BucketArray<K, V, L, TYPE> {
         self.digests.restart(alloc, len);
     }
 
-    /// Returns how many digests the array has room for: one for each bucket, and none if it has at
-    /// most four buckets.
+    /// Returns the number of digests: one for each bucket, or none if there are at most four
+    /// buckets.
     fn digests_len(&self) -> usize {
         if self.buckets.is_short() {
             0

@@ -1,9 +1,7 @@
-//! Digests of buckets: of each bucket a bitmap of its live own slots, and their fingerprints.
+//! Digests of buckets. Each is a bitmap of the bucket's live own slots, and their fingerprints.
 //!
-//! Model: the digest of each index. A digest is lost, and says nothing about its bucket, if its
-//! bitmap has all bits set or its index is past the end.
-//!
-//! Own.
+//! Model: the digest of each index. A digest is stale if its bitmap is all ones or its index is
+//! past the end; then it is no information about its bucket.
 ghost use Rattle.std.specs.Prelude.{◌≡◌, ◌≢◌, ◌==◌, ℕ, ◌-◌, ◌^◌, ◌<◌, ◌%◌};
 ghost use Rattle.std.specs.Prelude.{IfSome, IsTrue, ◌↔◌, [], bit_and, length, slice_set};
 ghost use Rattle.std.specs.Int.Count.{ones};
@@ -23,7 +21,7 @@ use crate::matcher::match_partial_hash;
 use std::alloc::Global;
 use std::marker::Model;
 
-/// The bitmap of a lost digest.
+/// The bitmap of a stale digest.
 const LOST: u32 = u32::MAX;
 
 /// The digests of an array's buckets.
@@ -45,7 +43,7 @@ impl Model for Digests {
 }
 
 impl Digests {
-    /// Returns digests that are all lost.
+    /// Returns digests that are all stale.
     pub(crate) fn none(alloc: Global) -> Self
         ensures { KnowsNone 0 result }
     {
@@ -55,7 +53,7 @@ impl Digests {
         }
     }
 
-    /// Allocates `len` digests, which are lost at first. If that fails, there is none.
+    /// Allocates `len` digests, all stale at first. If that fails, there are none.
     pub(crate) fn restart(&mut self, alloc: Global, len: usize)
         ensures { KnowsNone 0 self.new }
     {
@@ -70,7 +68,7 @@ impl Digests {
         }
     }
 
-    /// Returns the bitmap of a bucket.
+    /// Returns the bitmap in a bucket's digest.
     #[inline(always)]
     pub(crate) fn live(&self, index: usize) -> u32
         ensures { result ≡ (digest_at self.now index).live }
@@ -81,7 +79,7 @@ impl Digests {
         }
     }
 
-    /// Tests whether a bucket's digest and all those behind it are lost.
+    /// Returns whether the digests of a bucket and of all buckets after it are stale.
     #[inline(always)]
     pub(crate) fn is_lost_from(&self, index: usize) -> bool
         ensures { IsTrue result → KnowsNone index self.now }
@@ -89,8 +87,9 @@ impl Digests {
         self.lives.len() <= index
     }
 
-    /// Returns the bitmap of a bucket's live own slots, and those of them that have the hash's
-    /// fingerprint; `None` if the digest is lost. A bucket whose digest isn't lost has no chain.
+    /// Returns the bitmap of a bucket's live own slots, and the bitmap of those with the hash's
+    /// fingerprint, or `None` if the digest is stale. A bucket whose digest isn't stale has no
+    /// chain.
     #[inline(always)]
     pub(crate) fn known<K, V, L: LruList, const TYPE: u8>(
         &self,
@@ -117,7 +116,7 @@ impl Digests {
         Some((live, self.candidates(index, live, (hash % 256) as u8)))
     }
 
-    /// Returns those of the live own slots that have this fingerprint.
+    /// Returns a bitmap of those of the live own slots that have this fingerprint.
     #[inline(always)]
     fn candidates(&self, index: usize, live: u32, byte: u8) -> u32
         requires known { (digest_at self.now index).live ≢ 2 ^ 32 - 1 }
@@ -127,7 +126,7 @@ impl Digests {
         match_partial_hash(&self.bytes[index], byte) & live
     }
 
-    /// Makes a bucket's digest lost.
+    /// Makes a bucket's digest stale.
     #[inline(always)]
     pub(crate) fn lose(&mut self, index: usize)
         ensures lost { IsLost (digest_at self.new index) }
@@ -138,7 +137,7 @@ impl Digests {
         }
     }
 
-    /// Writes a bucket's digest, if there is room for it.
+    /// Stores a bucket's digest, if there is room for it.
     #[inline(always)]
     pub(crate) fn settle(&mut self, index: usize, live: u32, bytes: &[u8; BUCKET_LEN])
         ensures settled { Settles live bytes.now (digest_at self.new index) }
@@ -156,7 +155,7 @@ impl Digests {
         }
     }
 
-    /// Writes into the digest that an own slot was filled.
+    /// Updates the digest after an own slot was filled.
     #[inline(always)]
     pub(crate) fn fill(&mut self, index: usize, live: u32, pos: u32, byte: u8)
         requires known { (digest_at self.old index).live ≢ 2 ^ 32 - 1 }
@@ -173,7 +172,7 @@ impl Digests {
         row[pos as usize] = byte;
     }
 
-    /// Writes into the digest that an own slot was freed. Returns how many are live.
+    /// Updates the digest after an own slot was freed. Returns the number of live own slots.
     #[inline(always)]
     pub(crate) fn free(&mut self, index: usize, live: u32, pos: u32) -> usize
         requires known { (digest_at self.old index).live ≢ 2 ^ 32 - 1 }
@@ -191,7 +190,7 @@ impl Digests {
     }
 }
 
-/// Tests whether a bitmap is that of a lost digest.
+/// Returns whether a bitmap is that of a stale digest.
 #[inline(always)]
 pub(crate) fn is_lost(live: u32) -> bool
     ensures { IsTrue result ↔ (live ≡ 2 ^ 32 - 1) }

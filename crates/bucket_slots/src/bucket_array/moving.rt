@@ -1,7 +1,5 @@
-//! Moves between two arrays, seen from their parts: pairs move to several homes at once, and the
-//! memory of parts that are done is freed or reused.
-//!
-//! Own.
+//! Moves between two arrays. Pairs move to several homes at once, and the memory of parts that are
+//! done is freed or reused.
 ghost use Rattle.std.specs.Prelude.{◌≡◌, ◌<◌, length};
 ghost use Rattle.bucket_slots.specs.Homes.{IsHome};
 ghost use Rattle.bucket_slots.specs.Spreading.{SpreadsSome};
@@ -12,11 +10,11 @@ use crate::lru::LruList;
 
 impl<K: Drop, V: Drop, L: LruList, const TYPE: u8> BucketArray<K, V, L, TYPE> {
     /// Moves pairs of own slots of a bucket, the first ones in slot order, to own slots of their
-    /// homes, if these are among the buckets from `start` up to below `end`. How many move is left
-    /// open: it may stop at any pair. None moves if there is only one such bucket, or if one of
-    /// them may have a digest. The slots that the pairs leave are free.
+    /// homes, if these are among the buckets from `start` up to but not including `end`. It may
+    /// stop at any pair. It moves none if there is only one such bucket, or if one of them may have
+    /// a digest. The slots that the pairs leave are free.
     ///
-    /// Takes no memory. O(own slots), but O(buckets of a part) if buckets aren't made yet. Own.
+    /// Allocates nothing. O(own slots), but O(buckets of a part) if buckets aren't initialized yet.
     #[inline(always)]
     pub fn spread_own<F: Fn(&K) -> u64>(
         &mut self,
@@ -46,13 +44,13 @@ impl<K: Drop, V: Drop, L: LruList, const TYPE: u8> BucketArray<K, V, L, TYPE> {
 }
 
 impl<K: Drop, V: Drop, L: LruList + Drop, const TYPE: u8> BucketArray<K, V, L, TYPE> {
-    /// Frees the buckets of the part around a bucket, if every one is killed and empty. No bucket
-    /// changes. Nothing is freed if parts have the least length: such an array is small, and is
+    /// Frees the buckets of the part around a bucket, if all are killed and empty. No bucket
+    /// changes. If parts have the least length, nothing is freed: such an array is small, and is
     /// freed as a whole.
     ///
-    /// New memory replaces theirs; if it can't be allocated, theirs is kept.
+    /// New memory replaces that of the buckets. If it can't be allocated, the old memory is kept.
     ///
-    /// O(1) where the last of them isn't killed, else O(buckets of the part). Own.
+    /// O(1) if the last of them isn't killed, else O(buckets of the part).
     pub fn release_around(&mut self, index: usize)
         requires { index < length self.old }
         ensures { self.new ≡ self.old }
@@ -60,12 +58,12 @@ impl<K: Drop, V: Drop, L: LruList + Drop, const TYPE: u8> BucketArray<K, V, L, T
         self.buckets.release(index);
     }
 
-    /// Frees the buckets of the part around a bucket, if every one is killed and empty, and
-    /// exchanges their memory with that of a part of another array in which no bucket is made: one
-    /// of the next parts that pairs move to. If there is none, it does what `release_around` does.
-    /// No bucket changes.
+    /// Frees the buckets of the part around a bucket, if all are killed and empty, and exchanges
+    /// their memory with that of a part of another array in which no bucket is initialized: one of
+    /// the next parts that pairs move to. If there is none, it does what `release_around` does. No
+    /// bucket changes.
     ///
-    /// O(1) where the last of them isn't killed, else O(buckets of the part). Own.
+    /// O(1) if the last of them isn't killed, else O(buckets of the part).
     pub fn release_into(&mut self, index: usize, to: &mut Self)
         requires { index < length self.old }
         ensures kept { self.new ≡ self.old }

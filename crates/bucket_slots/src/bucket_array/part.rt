@@ -1,10 +1,9 @@
-//! A part of an array: a run of buckets, made as they are first lent for writing.
+//! A part of an array: a run of buckets, each initialized when it is first lent for writing.
 //!
-//! Model: the list of its buckets, as many as its vector has room for. Those behind the made ones
-//! are empty, and making them takes no memory. A part whose buckets are all killed and empty can be
-//! released: its buckets are dropped, and from then on those that aren't made are killed ones.
-//!
-//! Own.
+//! Model: the list of its buckets, as many as its vector has room for. Those after the initialized
+//! ones are empty, and initializing them allocates nothing. A part whose buckets are all killed and
+//! empty can be released: its buckets are dropped, and those that aren't initialized then read as
+//! killed ones.
 ghost use Rattle.std.specs.Prelude.{◌≡◌, ℕ, ◌+◌, ◌<◌, ◌≤◌, ◌^◌, ◌∷◌, [], List, true, false};
 ghost use Rattle.std.specs.Prelude.{IfOk, IfSome, length, replicate, vec_capacity, vec_len};
 ghost use Rattle.std.specs.Borrow.{sem};
@@ -21,10 +20,10 @@ use std::alloc::{AllocError, Global};
 use std::marker::Model;
 use std::mem;
 
-/// How many parts are searched for one in which no bucket is made.
+/// The number of parts that are searched for one in which no bucket is initialized.
 const FRESH_TRIES: usize = 8;
 
-/// A run of buckets, of which the first ones are made.
+/// A run of buckets, of which the first ones are initialized.
 pub(crate) struct Part<K, V, L: LruList, const TYPE: u8> {
     made: Vec<Bucket<K, V, L, TYPE>>,
     released: bool,
@@ -40,7 +39,7 @@ impl<K, V, L: LruList, const TYPE: u8> Model for Part<K, V, L, TYPE> {
     ghost view = { λ part. with_unmade part.made.items (vec_capacity part.made) part.released };
 }
 
-/// A slice of a bucket states that a bucket fits in memory.
+/// Taking a slice of a bucket states that a bucket fits in memory.
 impl<K: Drop, V: Drop, L: LruList + Drop, const TYPE: u8> Drop for Part<K, V, L, TYPE> {
     fn drop(self) {
         let Part { made, released: _ } = self;
@@ -56,7 +55,7 @@ impl<K: Drop, V: Drop, L: LruList + Drop, const TYPE: u8> Drop for Part<K, V, L,
 impl<K, V, L: LruList, const TYPE: u8> Part<K, V, L, TYPE> {
     ghost use Rattle.bucket_slots.specs.Layout.PartLoans.{LendsBucketOf};
 
-    /// Returns a part of this length. None of its buckets is made.
+    /// Returns a part of this length. None of its buckets is initialized.
     ///
     /// # Errors
     ///
@@ -73,7 +72,7 @@ impl<K, V, L: LruList, const TYPE: u8> Part<K, V, L, TYPE> {
         })
     }
 
-    /// Returns the bucket with an offset, or a spare one if it isn't made.
+    /// Returns the bucket at an offset, or a spare one if it isn't initialized.
     #[inline(always)]
     pub(crate) fn bucket<'a>(
         &'a self,
@@ -93,7 +92,7 @@ impl<K, V, L: LruList, const TYPE: u8> Part<K, V, L, TYPE> {
         }
     }
 
-    /// Returns a bucket with a live own slot, which is always made.
+    /// Returns a bucket with a live own slot, which is always initialized.
     #[inline(always)]
     pub(crate) fn made_bucket(&self, offset: usize) -> &Bucket<K, V, L, TYPE>
         requires within { offset < length self.now }
@@ -104,7 +103,7 @@ impl<K, V, L: LruList, const TYPE: u8> Part<K, V, L, TYPE> {
         &self.made[offset]
     }
 
-    /// Lends a bucket with a live own slot for writing. It is always made.
+    /// Lends a bucket with a live own slot for writing. It is always initialized.
     #[inline(always)]
     pub(crate) fn made_bucket_mut(&mut self, offset: usize) -> &mut Bucket<K, V, L, TYPE>
         requires within { offset < length self.old }
@@ -119,8 +118,8 @@ impl<K, V, L: LruList, const TYPE: u8> Part<K, V, L, TYPE> {
         &mut self.made[offset]
     }
 
-    /// Lends the bucket with an offset for writing. If it isn't made yet, it is made first, with
-    /// those before it.
+    /// Lends the bucket at an offset for writing. If it isn't initialized yet, it and those before
+    /// it are initialized first.
     #[inline(always)]
     pub(crate) fn bucket_mut(&mut self, offset: usize) -> &mut Bucket<K, V, L, TYPE>
         requires fits { BucketFits K.row V.row L.row TYPE.row
@@ -138,10 +137,10 @@ impl<K, V, L: LruList, const TYPE: u8> Part<K, V, L, TYPE> {
 }
 
 impl<K: Drop, V: Drop, L: LruList + Drop, const TYPE: u8> Part<K, V, L, TYPE> {
-    /// Drops the buckets, if every one is killed and empty. Reads of the part stay the same.
+    /// Drops the buckets, if all are killed and empty. Reads of the part stay the same.
     ///
-    /// New memory replaces theirs, so that lending a bucket for writing still takes none. If it
-    /// can't be allocated, theirs is kept.
+    /// New memory replaces that of the buckets, so lending a bucket for writing still allocates
+    /// nothing. If it can't be allocated, the old memory is kept.
     pub(crate) fn release(&mut self)
         requires { BucketFits K.row V.row L.row TYPE.row
             (record { KEEPS = L.KEEPS; listed = L.listed; IsTail = L.IsTail }) L.Default }
@@ -157,8 +156,9 @@ impl<K: Drop, V: Drop, L: LruList + Drop, const TYPE: u8> Part<K, V, L, TYPE> {
         }
     }
 
-    /// Drops the buckets, if every one is killed and empty, and exchanges their memory with that of
-    /// a part of the same length in which no bucket is made. Reads of both parts stay the same.
+    /// Drops the buckets, if all are killed and empty, and exchanges their memory with that of a
+    /// part of the same length in which no bucket is initialized. Reads of both parts stay the
+    /// same.
     pub(crate) fn release_to(&mut self, fresh: &mut Self)
         requires { BucketFits K.row V.row L.row TYPE.row
             (record { KEEPS = L.KEEPS; listed = L.listed; IsTail = L.IsTail }) L.Default }
@@ -208,8 +208,8 @@ impl<K: Drop, V: Drop, L: LruList + Drop, const TYPE: u8> Part<K, V, L, TYPE> {
 
 impl<K: Drop, V: Drop, L: LruList, const TYPE: u8> Part<K, V, L, TYPE> {
     /// Moves pairs of own slots of a bucket to `len` buckets from an offset on, as
-    /// `Bucket::spread_own` does; none if the part ends before. `start` is the index in the array
-    /// of the bucket at the offset.
+    /// `Bucket::spread_own` does. Moves none if the part ends before the last. `start` is the index
+    /// in the array of the bucket at the offset.
     #[inline(always)]
     pub(crate) fn spread<F: Fn(&K) -> u64>(
         &mut self,
@@ -230,7 +230,7 @@ impl<K: Drop, V: Drop, L: LruList, const TYPE: u8> Part<K, V, L, TYPE> {
             → SpreadsSome TYPE (λ key answer. F.post hash_of.now key answer) (IsShifted shift) first
             source.old self.old source.new self.new }
 
-        // The buckets before the offset stay.
+        // The buckets before the offset stay the same.
         ensures front { (i : ℕ) → i < offset → bucket_at self.new i ≡ bucket_at self.old i }
     {
         if self.made.capacity() - offset < len {
@@ -246,7 +246,7 @@ impl<K: Drop, V: Drop, L: LruList, const TYPE: u8> Part<K, V, L, TYPE> {
     }
 }
 
-/// Returns an empty bucket and a killed one, as which the buckets that aren't made are read.
+/// Returns an empty bucket and a killed one. A bucket that isn't initialized reads as one of them.
 ///
 /// # Errors
 ///
@@ -288,8 +288,8 @@ where
     Ok(buckets)
 }
 
-/// Returns whether each bucket is killed and empty. The last ones are looked at first, since they
-/// are killed last.
+/// Returns whether all buckets are killed and empty. The last ones are tested first, since they are
+/// killed last.
 fn are_spent<K, V, L: LruList, const TYPE: u8>(made: &Vec<Bucket<K, V, L, TYPE>>) -> bool
     requires { BucketFits K.row V.row L.row TYPE.row
         (record { KEEPS = L.KEEPS; listed = L.listed; IsTail = L.IsTail }) L.Default }
@@ -306,7 +306,7 @@ fn are_spent<K, V, L: LruList, const TYPE: u8>(made: &Vec<Bucket<K, V, L, TYPE>>
     true
 }
 
-/// Makes buckets until there are `len`, if there are fewer. Reads of the part stay the same.
+/// Initializes buckets until there are at least `len`. Reads of the part stay the same.
 #[inline(always)]
 fn make_to<K, V, L: LruList, const TYPE: u8>(
     made: &mut Vec<Bucket<K, V, L, TYPE>>,
@@ -325,7 +325,7 @@ fn make_to<K, V, L: LruList, const TYPE: u8>(
     }
 }
 
-/// Makes buckets until there are `len`. Reads of the part stay the same.
+/// Initializes buckets until there are `len`. Reads of the part stay the same.
 #[inline(never)]
 fn make_more<K, V, L: LruList, const TYPE: u8>(
     made: &mut Vec<Bucket<K, V, L, TYPE>>,
@@ -345,7 +345,7 @@ fn make_more<K, V, L: LruList, const TYPE: u8>(
     }
 }
 
-/// Returns the first of a few parts from an index on in which no bucket is made.
+/// Returns the first of a few parts, from an index on, in which no bucket is initialized.
 pub(crate) fn first_fresh<K, V, L: LruList, const TYPE: u8>(
     parts: &Vec<Part<K, V, L, TYPE>>,
     start: usize,

@@ -1,8 +1,8 @@
-//! The length of an array, when it is too full or too empty, the best capacity, and how many
-//! buckets an estimate looks at: functions of numbers alone.
+//! Functions of numbers: the length of an array, when it is too full or too empty, its best
+//! capacity, and the sizes of samples.
 //!
-//! Ports the arithmetic of scc's `src/hash_table/bucket_array.rs`, and `HashTable`'s test whether
-//! and to what capacity it is resized.
+//! Ports the arithmetic of scc's `src/hash_table/bucket_array.rs`, and the test in `HashTable` that
+//! decides whether and to what capacity it is resized.
 ghost use Rattle.std.specs.Prelude.{◌≡◌, ◌*◌, ◌+◌, ◌-◌, ◌/◌, ◌%◌, ◌^◌, ◌<◌, ◌≤◌, ◌↔◌, IsTrue};
 ghost use Rattle.bucket_slots.specs.Sampling.{IsLargeSample, IsSmallSample, full_sample};
 ghost use Rattle.bucket_slots.specs.Sizing.{
@@ -21,21 +21,21 @@ use crate::bucket::BUCKET_LEN;
 /// The least number of slots of an array: two buckets.
 pub(crate) const MINIMUM_CAPACITY: usize = 2 * BUCKET_LEN;
 
-/// The greatest number of slots of an array. A greater capacity is cut to it.
+/// The greatest number of slots of an array. A greater capacity is reduced to it.
 pub const MAXIMUM_SLOTS: usize = 1 << 62;
 
 /// The logarithm of the greatest number of parts of an array.
 const MOST_PARTS_BITS: u32 = 10;
 
-/// The logarithm of the least length of a part, where the array has as many buckets.
+/// The logarithm of the least length of a part, if the array has that many buckets.
 pub(crate) const LEAST_PART_BITS: u32 = 6;
 
-/// The greatest number of buckets that a full estimate looks at.
+/// The greatest number of buckets that a full estimate reads.
 const FULL_SAMPLE: usize = 128;
 
-/// Returns how many buckets a first estimate of the number of entries looks at.
+/// Returns the number of buckets that a first estimate of the number of entries reads.
 ///
-/// `len` is the length of an array. Takes no memory. O(1). scc: `BucketArray::small_sample_size`.
+/// `len` is the length of an array. Allocates nothing. O(1). scc: `BucketArray::small_sample_size`.
 pub fn small_sample_size_of(len: usize) -> usize
     requires { IsPowerIn 2 (2 ^ 58) len }
     ensures { IsSmallSample len result }
@@ -43,9 +43,9 @@ pub fn small_sample_size_of(len: usize) -> usize
     least_power_of_two(1 + large_sample_size_of(len).ilog2() as usize)
 }
 
-/// Returns how many buckets an accurate estimate of the number of entries looks at.
+/// Returns the number of buckets that an accurate estimate of the number of entries reads.
 ///
-/// `len` is the length of an array. Takes no memory. O(1). scc: `BucketArray::large_sample_size`.
+/// `len` is the length of an array. Allocates nothing. O(1). scc: `BucketArray::large_sample_size`.
 pub fn large_sample_size_of(len: usize) -> usize
     requires { IsPowerIn 2 (2 ^ 58) len }
     ensures { IsLargeSample len result }
@@ -53,9 +53,9 @@ pub fn large_sample_size_of(len: usize) -> usize
     least_power_of_two(len.ilog2() as usize)
 }
 
-/// Returns how many buckets an estimate for a resize looks at: all, or 128 where there are more.
+/// Returns the number of buckets that an estimate for a resize reads: all, but at most 128.
 ///
-/// `len` is the length of an array. Takes no memory. O(1). scc: `BucketArray::full_sample_size`.
+/// `len` is the length of an array. Allocates nothing. O(1). scc: `BucketArray::full_sample_size`.
 pub fn full_sample_size_of(len: usize) -> usize
     requires { IsPowerIn 2 (2 ^ 58) len }
     ensures { result ≡ full_sample len }
@@ -72,8 +72,8 @@ pub(crate) fn len_for(capacity: usize) -> usize
     slots / BUCKET_LEN
 }
 
-/// Returns how many parts an array of this length has, and the logarithm of their length: 1,024
-/// parts at most, of 64 buckets at least; a shorter array is one part.
+/// Returns the number of parts of an array of this length, and the logarithm of their length: at
+/// most 1,024 parts, of at least 64 buckets. A shorter array is one part.
 pub(crate) fn parts_for(len: usize) -> (usize, u32)
     requires { IsLength len }
     ensures whole { len ≡ result.0 * 2 ^ result.1 }
@@ -87,7 +87,7 @@ pub(crate) fn parts_for(len: usize) -> (usize, u32)
     (len >> part_bits, part_bits)
 }
 
-/// Returns a bucket's part, and its offset there.
+/// Returns the part of a bucket, and its offset in that part.
 #[inline(always)]
 pub(crate) fn place_of(index: usize, part_bits: u32, part_mask: usize) -> (usize, usize)
     requires few_bits { part_bits < 64 }
@@ -98,7 +98,7 @@ pub(crate) fn place_of(index: usize, part_bits: u32, part_mask: usize) -> (usize
     (index >> part_bits, index & part_mask)
 }
 
-/// Returns how many buckets there are from one up to below another.
+/// Returns the number of indices from `start` up to but not including `end`.
 #[inline(always)]
 pub(crate) fn span(start: usize, end: usize) -> usize
     ensures { start + result ≤ 2 ^ 64 }
@@ -106,21 +106,21 @@ pub(crate) fn span(start: usize, end: usize) -> usize
     end.saturating_sub(start)
 }
 
-/// Returns whether the slots are too full for a number of entries.
+/// Returns whether a number of entries is too large for the capacity.
 pub(crate) fn need_enlarge(capacity: usize, num_entries: usize) -> bool
     ensures { IsTrue result ↔ IsTooFull capacity num_entries }
 {
     num_entries > (capacity / 16) * 13
 }
 
-/// Returns whether the slots are too empty for a number of entries.
+/// Returns whether a number of entries is too small for the capacity.
 pub(crate) fn need_shrink(capacity: usize, num_entries: usize) -> bool
     ensures { IsTrue result ↔ IsTooEmpty capacity num_entries }
 {
     num_entries < capacity / 8
 }
 
-/// Returns the capacity that fits a number of entries best.
+/// Returns the best capacity for a number of entries.
 pub(crate) fn optimal_capacity(
     capacity: usize,
     num_entries: usize,

@@ -1,7 +1,5 @@
-//! Walks over the buckets of an array that read digests first, and touch no bucket whose digest
+//! Walks over the buckets of an array that read digests first, and skip each bucket whose digest
 //! shows that it is empty.
-//!
-//! Own.
 ghost use Rattle.std.specs.Prelude.{◌≡◌, ◌<◌, IfSome, length};
 ghost use Rattle.bucket_slots.specs.ArrayView.{bucket_at};
 ghost use Rattle.bucket_slots.specs.BucketView.{pairs_in};
@@ -14,8 +12,8 @@ use crate::bucket::EntryPtr;
 use crate::lru::LruList;
 
 impl<K, V, L: LruList, const TYPE: u8> BucketArray<K, V, L, TYPE> {
-    /// Returns the live own slots of a bucket as a bitmap, if its digest isn't lost. It has no
-    /// chain then. In an array of at most four buckets, which has no digests, the bucket is read.
+    /// Returns a bitmap of the live own slots of a bucket, if its digest isn't stale; then it has
+    /// no chain. In an array of at most four buckets, which has no digests, the bucket is read.
     #[inline(always)]
     fn known_own(&self, index: usize) -> Option<u32>
         ensures { IfSome result (λ live. AreAllOwn (bucket_at self.now index) live) }
@@ -32,10 +30,10 @@ impl<K, V, L: LruList, const TYPE: u8> BucketArray<K, V, L, TYPE> {
         if is_lost(live) { None } else { Some(live) }
     }
 
-    /// Returns the live slots of a bucket after a pointer as a bitmap of own slots, if its digest
-    /// isn't lost. No slot of a chain is live then.
+    /// Returns a bitmap of the live own slots of a bucket after a pointer, if the bucket's digest
+    /// isn't stale. Then no slot of a chain is live.
     ///
-    /// O(1). Own.
+    /// O(1).
     #[inline(always)]
     pub fn own_after(&self, index: usize, at: &EntryPtr<K, V, TYPE>) -> Option<u32>
         ensures { IfSome result (λ left. AreAllAfter (bucket_at self.now index) at.now left) }
@@ -49,7 +47,7 @@ impl<K, V, L: LruList, const TYPE: u8> BucketArray<K, V, L, TYPE> {
     /// Calls a function with each live pair of a bucket, in slot order.
     ///
     /// O(live slots), but O(32, and the square of the number of blocks of the chain) if the digest
-    /// is lost, and the function's calls. Own.
+    /// is stale, plus the function's calls.
     #[inline(always)]
     pub fn for_each_in<F: FnMut(&K, &V)>(&self, index: usize, f: &mut F)
         requires callable { F.IsAlwaysCallable f.old }

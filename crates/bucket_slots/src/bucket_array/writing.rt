@@ -1,6 +1,4 @@
-//! Insertions into a bucket of an array and removals from it, by its digest.
-//!
-//! Own.
+//! Insertions into a bucket of an array, and removals from it, by its digest.
 ghost use Rattle.std.specs.Prelude.{◌≡◌, ◌≢◌, ◌%◌, ◌<◌, OnErr, OnOk, length, slice_set};
 ghost use Rattle.bucket_slots.specs.ArrayView.{bucket_at};
 ghost use Rattle.bucket_slots.specs.BucketView.{BucketView};
@@ -22,10 +20,10 @@ pub enum NotPut<K, V> {
 }
 
 impl<K: Drop, V: Drop, L: LruList, const TYPE: u8> BucketArray<K, V, L, TYPE> {
-    /// Takes the first pair that a probe wants out of a bucket. Returns it, and how many are left;
-    /// `None` where none is wanted.
+    /// Removes the first pair of a bucket that matches a probe. Returns it and the number of live
+    /// pairs left in the bucket, or `None` if none matches.
     ///
-    /// Takes no memory. O(1), but O(blocks in the chain) if the digest is lost.
+    /// Allocates nothing. O(1), but O(blocks in the chain) if the digest is stale.
     #[inline(always)]
     pub fn take_by<P: KeyProbe<K>>(
         &mut self,
@@ -53,7 +51,7 @@ impl<K: Drop, V: Drop, L: LruList, const TYPE: u8> BucketArray<K, V, L, TYPE> {
         Some((pair, left))
     }
 
-    /// Does what `take_by` does, where the bucket has no digest.
+    /// Does what `take_by` does, if the bucket's digest is stale.
     #[inline(always)]
     fn take_lost<P: KeyProbe<K>>(
         &mut self,
@@ -79,14 +77,14 @@ impl<K: Drop, V: Drop, L: LruList, const TYPE: u8> BucketArray<K, V, L, TYPE> {
         Some((pair, left))
     }
 
-    /// Inserts a pair into a bucket where no live slot has an equal key.
+    /// Inserts a pair into a bucket if no live slot there has an equal key.
     ///
     /// # Errors
     ///
     /// An equal key is in the bucket, or allocation failed: the pair is returned, and no bucket
     /// changes. Allocation can't fail while a slot is free.
     ///
-    /// O(1), but O(blocks in the chain) if the digest is lost.
+    /// O(1), but O(blocks in the chain) if the digest is stale.
     #[inline(always)]
     pub fn insert_absent<G: Generation>(
         &mut self,
@@ -125,14 +123,14 @@ impl<K: Drop, V: Drop, L: LruList, const TYPE: u8> BucketArray<K, V, L, TYPE> {
         Ok(())
     }
 
-    /// Inserts a pair into a bucket, or writes its value beside the equal key and returns the
-    /// earlier value.
+    /// Inserts a pair into a bucket. If the key is there already, the value is replaced, and the
+    /// previous value is returned.
     ///
     /// # Errors
     ///
     /// Allocation failed, and the key is absent: the pair is returned, and no bucket changes.
     ///
-    /// O(1), but O(blocks in the chain) where there is one.
+    /// O(1), but O(blocks in the chain) if there is a chain.
     #[inline(always)]
     pub fn upsert<G: Generation>(
         &mut self,
@@ -169,7 +167,7 @@ impl<K: Drop, V: Drop, L: LruList, const TYPE: u8> BucketArray<K, V, L, TYPE> {
         }
     }
 
-    /// Does what `upsert` does, where the bucket has no digest.
+    /// Does what `upsert` does, if the bucket's digest is stale.
     #[inline(always)]
     fn upsert_lost<G: Generation>(
         &mut self,
@@ -200,7 +198,8 @@ impl<K: Drop, V: Drop, L: LruList, const TYPE: u8> BucketArray<K, V, L, TYPE> {
         }
     }
 
-    /// Does what `insert_absent` does, where the bucket has no digest or is an index's.
+    /// Does what `insert_absent` does, if the bucket's digest is stale or it is a bucket of an
+    /// index.
     #[inline(always)]
     fn insert_lost<G: Generation>(
         &mut self,

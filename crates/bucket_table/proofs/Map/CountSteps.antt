@@ -35,7 +35,7 @@ zeros_estimated counts start size all =
     e ∙ ap (λ (n : ℕ). min n (2 ^ 64 - 1)) (zero-mul (length counts / size)) ∙ refl
 
 module _ {K V : Type 0} where
-  -- one bucket more of an array
+  -- one more bucket of an array
   pub entries_among_more : (bs : List (BucketView K V)) (i : ℕ) → i < length bs
       → length (entries_among (take (i + 1) bs)) ≡ length (entries_among (take i bs)) + length (pairs_in (bucket_at bs i))
   entries_among_more [] i within = absurd (omega arith)
@@ -47,7 +47,7 @@ module _ {K V : Type 0} where
       rw (e, length-append (entries_in b) (entries_among (take (i + 1) bs)), length-append (entries_in b) (entries_among (take i bs)))
       (omega (arith, entries_among_more bs i (omega arith)))
 
-  -- buckets with 32 own slots have no more pairs than those and what their chains have
+  -- buckets with 32 own slots have at most as many pairs as those slots and the pairs of their chains
   pub held_by : (bs : List (BucketView K V)) → ((i : ℕ) → i < length bs → length (bucket_at bs i).own ≡ 32)
       → IsHeldBy (entries_among bs) bs
   held_by [] long = omega arith
@@ -96,17 +96,17 @@ module _ {K V : Type 0} where
   pub length-pairs_of : (arrays : ArraysView K V) → length (pairs_of arrays) ≡ length (entries_of arrays)
   length-pairs_of arrays = length-map (entries_of arrays) (λ (e : (K × V) × ℕ). e.0)
 
-  -- a count of no more than own slots says that no more pairs than those stand there
+  -- if the count is at most the number of own slots, there are at most that many pairs
   pub held_by_own : (a : ArraysView K V) {count slots : ℕ} → count ≡ counted_to (pairs_of a) → slots < 2 ^ 64
       → slots ≡ 32 * length (a.current ++ a.linked) → count ≤ slots → IsHeldBy (pairs_of a) (a.current ++ a.linked)
   held_by_own a is fits own few = omega (arith, is, fits, own, few)
 
-  -- where none was counted there is none
+  -- if none was counted, there is none
   pub none_kept : (old new : ArraysView K V) (n : ℕ) → Keeps old new → n ≡ counted_to (pairs_of old) → n ≡ 0 → entries_of new ≡ []
   none_kept old new n kept is none =
       nil_from_length (entries_of new) (omega (arith, length_permutation _ _ kept.pairs, length-pairs_of old, is, none))
 
-  -- and where some were there are some, so nothing is asked for
+  -- and if some were counted, there are some, so nothing is asked for
   pub some_kept : (old new : ArraysView K V) (n : ℕ) → Keeps old new → n ≡ counted_to (pairs_of old) → (n ≡ 0 → ⊥)
       → ResizesIf ((entries_of new ≡ []) × (new.minimum ≡ 0)) new new
   some_kept old new n kept is some = inr (

@@ -20,16 +20,16 @@ use Rattle.bucket_table.proofs.Walking.Row.{stands}
 
 module _ {K V : Type 0} {eq : K → K → Bool} {hash : K → ℕ} {old new : ArraysView K V} {count : ℕ} (was : IsCountedMap eq hash old count)
     (one : IsOneMap eq hash new) where
-  -- as many pairs
+  -- the number of pairs is the same
   pub counted_same : length (pairs_of old) ≡ length (pairs_of new) → IsCountedMap eq hash new count
   counted_same len = record { one_map = one; counted = was.counted ∙ ap (λ (n : ℕ). min n (2 ^ 64 - 1)) len }
 
-  -- some went and some came
+  -- some were removed and some inserted
   pub counted_after : (gone added : ℕ) {result : ℕ} → length (pairs_of old) + added ≡ length (pairs_of new) + gone
       → CountsAfter count gone added (pairs_of new) result → IsCountedMap eq hash new result
   counted_after gone added len counts = record { one_map = one; counted = counts _ was.counted len }
 
--- counted anew
+-- they are counted anew
 pub counted_anew : {K V : Type 0} {eq : K → K → Bool} {hash : K → ℕ} {arrays : ArraysView K V} {count : ℕ} → IsOneMap eq hash arrays
     → count ≡ counted_to (entries_of arrays) → IsCountedMap eq hash arrays count
 counted_anew {arrays} one is =
@@ -45,7 +45,7 @@ pub nothing_counted : {K V : Type 0} (eq : K → K → Bool) (hash : K → ℕ) 
 }) 0
 nothing_counted eq hash minimum maximum = record { one_map = nothing_kept eq hash minimum maximum; counted = refl }
 
--- one bucket is another one
+-- one bucket is replaced
 pub len_with : {K V : Type 0} (a : ArraysView K V) (side : Side) (i : ℕ) (b : BucketView K V) → i < length (buckets_on a side)
     → length (pairs_of a) + length (pairs_in b) ≡ length (pairs_of (arrays_with a side i b)) + length (pairs_in (bucket_on a side i))
 len_with a side i b within =
@@ -66,14 +66,14 @@ pub len_unplaced : {K V A E : Type 0} (a : ArraysView K V) (side : Side) (i : �
 len_unplaced a side i b (Ok x) same = tt
 len_unplaced a side i b (Err e) same = rw (same, arrays_with-same a side i) refl
 
--- the same, where the bucket was asked afterwards
+-- the same, if the number of pairs in the bucket was read afterwards
 pub len_left : {K V : Type 0} (a : ArraysView K V) (side : Side) (i : ℕ) (b : BucketView K V) (new : ArraysView K V) (before after : ℕ)
     → i < length (buckets_on a side) → new ≡ arrays_with a side i b → before ≡ length (pairs_in (bucket_on a side i))
     → after ≡ length (pairs_in (bucket_on new side i)) → length (pairs_of a) + after ≡ length (pairs_of new) + before
 len_left a side i b new before after within is was left = rw (is, was, left) (
     rw (is, put_there a side i b within) (len_with a side i b within))
 
--- and of the row
+-- and for the row
 pub len_in_row : {K V : Type 0} (a : ArraysView K V) (index : ℕ) (b : BucketView K V) (gone : ℕ) → index < length (row_of a)
     → length (pairs_in (bucket_at (row_of a) index)) ≡ gone + length (pairs_in b)
     → length (pairs_of a) + 0 ≡ length (pairs_of (row_with a index b)) + gone
@@ -129,7 +129,7 @@ module _ {K V H : Type 0} (kind : ℕ) (hasher : H) (a b : ArraysView K V) where
   abbrev new : MapState K V H
   new = state_of kind (record { hasher = hasher; arrays = b })
 
-  -- as many come as the answer says
+  -- the number of inserted pairs is what the result says
   pub len_inserted : {A : Type 0} (eq : K → K → Bool) (key : K) (value : V) (r : Result A (NotInserted K V)) (n : ℕ)
       → n ≡ (if is_ok r then 1 else 0) → Inserts eq key value old r new → length (pairs_of a) + n ≡ length (pairs_of b) + 0
   len_inserted eq key value (Ok done) n is x = rw is (len_added x.1)

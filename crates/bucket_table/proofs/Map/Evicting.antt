@@ -10,7 +10,7 @@ use Rattle.bucket_table.proofs.Map.Preparing.{wanting_unready}
 use Rattle.bucket_table.proofs.Map.TakeSteps.{then_taken}
 
 module _ {K V H : Type 0} (kind : ℕ) (old between new : TableView K V H) where
-  -- a pair is out, or all stays, after the pairs moved
+  -- a pair is removed, or nothing changes, after the pairs moved
   pub then_evicted : (side : Side) (index : ℕ) (r : Option (K × V)) → KeepsPairs (state_of kind old) (state_of kind between)
       → IfSome r (λ pair. TakesPair (state_of kind between) pair (state_of kind new))
       → new ≡ with_bucket between side index (slots_left (bucket_on between.arrays side index) r)
@@ -38,7 +38,7 @@ module _ {K V H : Type 0} (kind : ℕ) (old new : TableView K V H) where
   nothing_evicted hash prepared none =
       record { between = new; prepared = prepared; done = inl (prepared.kept.current_len ∙ none, refl, refl) }
 
-  -- nor is anything evicted where memory was wanted
+  -- nor is anything evicted if memory was needed
   pub evict_refused : (hash : ℕ) → IsPrepared kind hash old new → HomeWantsMemory hash old.arrays new.arrays
       → PreparesThen kind hash old (λ moved. EvictsAt {E = ℕ} hash moved (Err 0) new)
   evict_refused hash prepared wants =

@@ -22,14 +22,14 @@ use Rattle.bucket_table.proofs.Views.SideChanges.{locked_current}
 use Rattle.bucket_table.proofs.Map.MapKept.{hasher_kept, state_found}
 
 module _ {K V : Type 0} where
-  -- by samples, no home grows for being overfull
+  -- with the rule `Sampled`, no overfull home causes a growth
   pub readies_sampled : (kind hash : ℕ) (old : ArraysView K V) (side : Side) (index : ℕ) (new : ArraysView K V)
       → ReadiesOrGrows Sampled kind hash old side index new → ReadiesThenGrows kind hash old side index new
   unfolding ReadiesOrGrows
   readies_sampled kind hash old side index new (inl readies) = readies
   readies_sampled kind hash old side index new (inr (overfull, on, grows)) = absurd cc
 
-  -- it was refused beside an old array, or for the first one
+  -- it failed beside an old array, or for the first array
   pub none_found : (hash : ℕ) (old new : ArraysView K V) → (0 < length old.linked → KeepsArrays old new)
       → WorksUnits 1 (IsHome (length new.current) hash) old new
       → (length old.linked ≡ 0 → (length old.current ≡ 0) × (new ≡ old)) → (0 < length new.current → HomeWantsMemory hash old new)
@@ -44,7 +44,7 @@ module _ {K V : Type 0} where
     home = home;
   }
 
-  -- the bucket that gets ready is a hash's home
+  -- the bucket that is made ready is a hash's home
   pub home_worked : (hash index : ℕ) (old new : ArraysView K V) → IsHome (length old.current) hash index
       → length new.current ≡ length old.current → WorksUnits 1 (λ home. home ≡ index) old new
       → WorksUnits 1 (IsHome (length new.current) hash) old new
@@ -52,7 +52,7 @@ module _ {K V : Type 0} where
       units_wider (IsHome (length new.current) hash) 1 old new
       (λ i here. subst (IsHome (length new.current) hash) (sym here) (rw same home)) units
 
-  -- and it is ready where its sources are killed
+  -- and it is ready if its sources are killed
   pub home_ready : {A E : Type 0} (hash index : ℕ) (old new : ArraysView K V) (result : Result A E)
       → IsHome (length old.current) hash index → length new.current ≡ length old.current → OnOk result (AreSourcesKilled new index)
       → OnOk result (IsReady new hash)
@@ -64,12 +64,12 @@ module _ {K V : Type 0} where
       }
   home_ready hash index old new (Err error) home same killed = tt
 
-  -- and there is but one
+  -- and there is only one
   pub one_home : (hash index : ℕ) (old new : ArraysView K V) → IsHome (length new.current) hash index
       → WorksUnits 1 (IsHome (length new.current) hash) old new → WorksUnits 1 (λ home. home ≡ index) old new
   one_home hash index old new home units = units_wider (λ other. other ≡ index) 1 old new (λ i other. home.the_one i other.own) units
 
-  -- a home is ready after its preparation, or memory was wanted
+  -- a home is ready after its preparation, or memory was needed
   pub home_answered : {A : Type 0} (hash : ℕ) (old new : ArraysView K V) (result : Result A Missing) → OnOk result (IsReady new hash)
       → IfErr result (λ missing. IsMissing missing old) → (result ≡ Err Memory → HomeWantsMemory hash old new)
       → length new.current ≡ length old.current → 0 < length new.current → IsReady new hash ⊎ HomeWantsMemory hash old new
@@ -77,7 +77,7 @@ module _ {K V : Type 0} where
   home_answered hash old new (Err Nothing) ready missing wants same stands = absurd (omega (arith, missing, same, stands))
   home_answered hash old new (Err Memory) ready missing wants same stands = inr (wants refl)
 
--- what becomes of the arrays becomes of the table
+-- what happens to the arrays happens to the table
 module _ {K V H : Type 0} (kind hash : ℕ) (hasher : H) (a new : ArraysView K V) where
   abbrev over : ArraysView K V → TableView K V H
   over b = record { hasher = hasher; arrays = b }
@@ -92,7 +92,7 @@ module _ {K V H : Type 0} (kind hash : ℕ) (hasher : H) (a new : ArraysView K V
     home = home;
   }
 
-  -- what the arrays answer is what the table answers
+  -- the result of the arrays is that of the table
   pub finds : {E : Type 0} (rule : ResizeRule) (result : Result (Side × ℕ) E) → Keeps a new
       → IfOk result (λ found. IsLocked new found.0 found.1)
       → IfOk result (λ found. IsHome (length (buckets_on new found.0)) hash found.1)
@@ -132,7 +132,7 @@ module _ {K V H : Type 0} (kind hash : ℕ) (hasher : H) (a new : ArraysView K V
           found = inl (a, readies, asked, grown);
         }
 
-  -- a roomy home is found as it stands
+  -- a roomy home is found as it is
   pub roomy_found : (index : ℕ) → IsRoomy a hash index → (rule : ResizeRule)
       → FindsBucket rule kind hash (over a) Current index (over a)
   unfolding ReadiesOrGrows ReadiesThenGrows
@@ -163,7 +163,7 @@ module _ {K V H : Type 0} (kind hash : ℕ) (hasher : H) (a new : ArraysView K V
   roomy_finds (Some index) roomy = roomy_found index roomy
 
 module _ {K V H : Type 0} where
-  -- a home that was overfull is found, in the old array now
+  -- an overfull home is found, now in the old array
   pub found_grown : (kind hash : ℕ) (old : TableView K V H) (index : ℕ) (new : TableView K V H) → (hash_of : K → ℕ)
       → ArePlaced hash_of old.arrays → KeepsPairs (state_of kind old) (state_of kind new) → GrowsOverfull hash old.arrays new.arrays
       → IsHome (length new.arrays.linked) hash index → FindsBucket Counted kind hash old Old index new
@@ -181,7 +181,7 @@ module _ {K V H : Type 0} where
         found = inr (refl, refl, grows);
       }
 
-  -- and one that was not is found in the arrays as they were
+  -- and one that isn't overfull is found in the arrays as they were
   pub found_ungrown : {E : Type 0} (rule : ResizeRule) (kind hash : ℕ) (old between new : TableView K V H) (r : Result (Side × ℕ) E)
       → KeepsPairs (state_of kind old) (state_of kind between) → between.arrays ≡ old.arrays → Finds rule kind hash between r new
       → Finds rule kind hash old r new

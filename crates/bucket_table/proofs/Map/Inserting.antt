@@ -1,4 +1,4 @@
--- A pair put into a locked bucket where its key is nowhere, and what that makes of the table in which the bucket was found.
+-- A pair inserted into a locked bucket if its key is absent, and what that makes of the table in which the bucket was found.
 use Rattle.bucket_table.proofs.Words.{ArraysView, Bool, BucketView, Err, IsEquivalence, IsHome, IsLocked, IsOneMap, IsPermutation-refl}
 use Rattle.bucket_table.proofs.Words.{KeepsPairs, MapState, Ok, OnErr, OnOk, Result, Side, TableView, ℕ, bucket_at, bucket_on, buckets_on}
 use Rattle.bucket_table.proofs.Words.{length, pairs_of, refl, slots_after_insertion, true, with_bucket, ◌%◌, ◌≡◌}
@@ -39,20 +39,20 @@ module _ {K V H : Type 0} {eq : K → K → Bool} (laws : IsEquivalence eq) (has
       ((answer.0, answer.1, absent), record { pairs = IsPermutation-refl (pairs_of a); others = refl }))
 
 module _ {K V H : Type 0} where
-  -- a pair that comes back where the map was the same before
+  -- the same for a pair that is returned, if the map was the same before
   pub handed_back : (eq : K → K → Bool) (key : K) (value : V) (old between : MapState K V H) (why : NotInserted K V)
       → KeepsPairs old between → HandsBack eq key value between.pairs why → HandsBack eq key value old.pairs why
   handed_back eq key value old between (Present k v) keeps (same, handed, (pair, there)) =
       (same, handed, (pair, there_before (λ own. eq own key) old between pair keeps there))
   handed_back eq key value old between (Memory k v) keeps x = (x.0, x.1, absent_before (λ own. eq own key) old between keeps x.2)
 
-  -- and nothing else changes where no bucket is found for it
+  -- and nothing else changes if no bucket is found for it
   pub unfound : (eq : K → K → Bool) (key : K) (value : V) (old new : MapState K V H) (why : NotInserted K V) → KeepsPairs old new
       → HandsBack eq key value new.pairs why → HandsBack eq key value old.pairs why × KeepsPairs old new
   unfound eq key value old new why keeps x = (handed_back eq key value old new why keeps x, keeps)
 
 module _ {K V H A : Type 0} where
-  -- an insertion where the map was the same before
+  -- the same for an insertion, if the map was the same before
   pub then_inserted : (eq : K → K → Bool) (key : K) (value : V) (old between new : MapState K V H) (r : Result A (NotInserted K V))
       → KeepsPairs old between → Inserts eq key value between r new → Inserts eq key value old r new
   then_inserted eq key value old between new (Ok done) keeps x =
@@ -60,7 +60,7 @@ module _ {K V H A : Type 0} where
   then_inserted eq key value old between new (Err why) keeps x =
       (handed_back eq key value old between why keeps x.0, then_kept old between new keeps x.1)
 
-  -- a bucket found for the hash of a key, and changed where a pair was put
+  -- a bucket is found for the hash of a key, and changed if a pair was inserted
   pub found_then : {rule : ResizeRule} (eq : K → K → Bool) (kind h n : ℕ) (keeps : ℕ → Bool) (key : K) (value : V)
       (old between new : TableView K V H)
       (side : Side) (i : ℕ) (r : Result A (NotInserted K V)) → h ≡ n → FindsBucket rule kind h old side i between
@@ -77,7 +77,7 @@ module _ {K V H A : Type 0} where
       rw (← own) (record { answer = Ok (side, i); between = between; found = found; done = (answer.3, same) })
 
 module _ {K V H : Type 0} where
-  -- and where none is found
+  -- and if none is found
   pub refused_then : {rule : ResizeRule} (kind n : ℕ) (keeps : ℕ → Bool) (pair : K × V) (old new : TableView K V H) (why : NotInserted K V)
       → IsRefused kind n old new
       → FindsThen rule kind n old (λ answer table. InsertsAt {A = ℕ} kind keeps pair (n % 256) table (Err why) answer new)

@@ -1,4 +1,4 @@
--- What a call by key finds in a table, and which marks it brings.
+-- What a call by key finds in a table, and which tombstones it adds.
 use Rattle.bucket_table.proofs.Words.{ArePlaced, ArraysView, Bool, BucketView, Contains-permutation, HasNoNewMark, IfNone, IsAbsent, IsHome}
 use Rattle.bucket_table.proofs.Words.{IsPermutation, List, MarksBy, None, Option, Place, Side, Some, ℕ, ap, arrays_with, bucket_at}
 use Rattle.bucket_table.proofs.Words.{bucket_on, buckets_on, by-no_new, by-trans, home_bucket, length, length-set, marks_in, marks_of}
@@ -22,7 +22,7 @@ module _ {K V : Type 0} where
       (lent ∙ ap (λ (bs : List (BucketView K V)). bucket_at bs index) is) found in
       record { pair = r.0; within = subst (λ (bs : List (BucketView K V)). index < length bs) is within; slot = r.1; there = r.2 }
 
-  -- and so it stands once it was touched
+  -- and so it does after the slot is touched
   pub stands_touched : (wants : K → Bool) (arrays : ArraysView K V) (side : Side) (index : ℕ) (at : Place) (keeps : Bool)
       → StandsAt wants arrays side index at
       → IsPermutation (pairs_of arrays) (pairs_of (arrays_with arrays side index (slots_touched keeps (bucket_on arrays side index) at)))
@@ -39,7 +39,7 @@ module _ {K V : Type 0} where
         );
       }
 
-  -- and where it finds nothing
+  -- and if it finds nothing
   pub none_at_home : (wants : K → Bool) (arrays : ArraysView K V) (side : Side) (array : List (BucketView K V)) (b : BucketView K V)
       (n index : ℕ)
       → array ≡ buckets_on arrays side → b ≡ bucket_at array index → IsHome (length array) n index
@@ -49,7 +49,7 @@ module _ {K V : Type 0} where
       (rw (← home_bucket-is array n index home, ← lent) (ap (λ at. pair_at b at) none))
 
 module _ {K V : Type 0} (wants : K → Bool) (hash : K → ℕ) where
-  -- neither home has a wanted key, so the map hasn't
+  -- neither home has a matching key, so the map has none
   pub absent_searched : {S : Type 0} (n : ℕ) (arrays : ArraysView K V) (r : Option S) (later : K → Bool) → ArePlaced hash arrays
       → ((own : K) → wants own ≡ true → hash own ≡ n) → later ≡ wants → pair_wanted wants (n % 256) (home_bucket n arrays.linked) ≡ None
       → IfNone r (pair_wanted later (n % 256) (home_bucket n arrays.current) ≡ None) → IfNone r (IsAbsent wants (pairs_of arrays))
@@ -58,7 +58,7 @@ module _ {K V : Type 0} (wants : K → Bool) (hash : K → ℕ) where
       (subst (λ (test : K → Bool). pair_wanted test (n % 256) (home_bucket n arrays.current) ≡ None) same in_current)
 
 module _ {K V : Type 0} (epoch : ℕ) where
-  -- a bucket brought only marks of an epoch, and what came after brought none
+  -- a bucket got only tombstones of an epoch, and what came after added none
   pub marks_through : (a : ArraysView K V) (side : Side) (i : ℕ) (c : BucketView K V) (new : ArraysView K V)
       → MarksBy epoch (marks_in (bucket_on a side i)) (marks_in c)
       → HasNoNewMark (marks_of (arrays_with a side i c)) (marks_of new) → MarksBy epoch (marks_of a) (marks_of new)

@@ -1,4 +1,4 @@
--- A value beside a wanted key was lent, after its slot was found.
+-- A value beside a matching key was lent, after its slot was found.
 use Rattle.bucket_table.proofs.Words.{Bool, ChangesValue, IsThere, List, Place, Side, Slot, Some, TableView, ℕ, bucket_on}
 use Rattle.bucket_table.proofs.Words.{bucket_with_value, live_pair, pairs_of, same_Some, slot_in, slots_touched, subst, sym, with_bucket}
 use Rattle.bucket_table.proofs.Words.{◌∙◌, ◌≡◌}
@@ -26,7 +26,7 @@ module _ {K V H : Type 0} (wants : K → Bool) (kind hash : ℕ) (old between : 
   pub lent_there : IsThere wants (pairs_of old.arrays) (own, before)
   lent_there = there_before wants (state_of kind old) (state_of kind between) (own, before) prepared.map there
 
-  -- and another value is written there, and the slot is touched where the call touches
+  -- and another value is written there, and the slot is touched if the call touches
   pub lent_writes : (touches : Bool) (value : V) (new : TableView K V H)
       → new ≡ with_bucket between side i (bucket_with_value (slots_touched touches (bucket_on between.arrays side i) at) at value)
       → ChangesValue (state_of kind between) (own, before) value (state_of kind new)

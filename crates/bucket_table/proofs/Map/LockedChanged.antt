@@ -1,4 +1,4 @@
--- What a call of a locked bucket answers and leaves, by what its bucket's own call does.
+-- What a call of a locked bucket returns and leaves, given what its bucket's own call does.
 use Rattle.bucket_table.proofs.Words.{Bool, BucketView, Err, IfErr, IfOk, Ok, OnErr, OnOk, Place, Result, Side, TableView, ℕ, bucket_on}
 use Rattle.bucket_table.proofs.Words.{if◌then◌else◌, live, refl, slot_in, subst, with_bucket, ◌∙◌, ◌≡◌}
 use Rattle.bucket_slots.specs.Placing.{IsRefused, place_for_next}
@@ -13,7 +13,7 @@ use Rattle.bucket_slots.specs.declared.lru.LruList as list
 use Rattle.bucket_table.specs.declared.key_hash.KeyHash as key_hash
 
 module _ {K V : Type 0} where
-  -- what an insertion answers: t is its bucket, and u that of the table
+  -- what an insertion returns: t is its bucket, and u that of the table
   pub answers_placing : (kind : ℕ) (keeps : ℕ → Bool) (s t u : BucketView K V) (pair : K × V) (byte : ℕ) (r : Result Place (K × V)) → u ≡ t
       → IfOk r (λ at. at ≡ place_for_next (slots_for_insertion kind keeps s)) → IfOk r (λ at. slot_in t at ≡ live pair byte)
       → IfErr r (λ back. back ≡ pair) → OnErr r (IsRefused s t (slots_for_insertion kind keeps s))
@@ -22,7 +22,7 @@ module _ {K V : Type 0} where
   answers_placing kind keeps s t u pair byte (Err e) same place names back refused = (back, refused.no_free_slot)
 
 module _ {K V H : Type 0} where
-  -- what it leaves: t is the table inside, and s what it is known as
+  -- what it leaves: t is the table inside, and s the table in the contract
   pub put_or_same : {A E : Type 0} (r : Result A E) (t s : TableView K V H) (side : Side) (i : ℕ) (b : BucketView K V)
       (f : BucketView K V → BucketView K V) → t ≡ s → OnOk r (b ≡ f (bucket_on t.arrays side i)) → OnErr r (b ≡ bucket_on t.arrays side i)
       → with_bucket t side i b ≡ with_bucket s side i (if is_ok r then f (bucket_on s.arrays side i) else bucket_on s.arrays side i)

@@ -1,4 +1,4 @@
--- What is left of a table's arrays once one bucket is another one.
+-- What is left of a table's arrays after one bucket is replaced.
 use Rattle.bucket_table.proofs.Words.{ArraysView, BucketView, Err, IsPermutation-cons, IsPermutation-trans, Keeps}
 use Rattle.bucket_table.proofs.Words.{KeepsPairs, MapState, Ok, OnErr, OnOk, Option, Place, Result, Side, Slot, Some, TableView}
 use Rattle.bucket_table.proofs.Words.{TakesPair, ℕ, [], ap, arrays_with, bucket_at, bucket_on, buckets_on, empty_bucket, free}
@@ -20,7 +20,7 @@ pub pair_there : {K V : Type 0} (b : BucketView K V) (place : Place)
     → is_live (slot_in b place) ≡ true → (p : K × V) × (live_pair (slot_in b place) ≡ Some p)
 pair_there b place h = live_has (slot_in b place) h
 
--- what follows for one answer
+-- what follows for an error
 pub on_err : {A E P Q : Type 0} (r : Result A E) → (P → Q) → OnErr r P → OnErr r Q
 on_err (Ok x) f h = tt
 on_err (Err e) f h = f h
@@ -29,12 +29,12 @@ pub ok_not_err : {A E : Type 0} {x : A} {e : E} → ◌≡◌ {A = Result A E} (
 ok_not_err same = cc
 
 module _ {K V : Type 0} where
-  -- the bucket stands where it was put
+  -- the bucket is where it was put
   pub put_there : (a : ArraysView K V) (side : Side) (i : ℕ) (b : BucketView K V)
       → i < length (buckets_on a side) → bucket_at (buckets_on (arrays_with a side i b) side) i ≡ b
   put_there a side i b within = rw (buckets_on-arrays_with a side i b) (get_or-set_same (buckets_on a side) i b empty_bucket within)
 
-  -- and where that asks for it the arrays are shrunk
+  -- and if that bucket asks for it, the arrays are shrunk
   pub shrinks_after : (left : Option ℕ) (a : ArraysView K V) (side : Side) (i : ℕ) (b : BucketView K V) (new : ArraysView K V)
       → i < length (buckets_on a side)
       → ShrinksBy left (pairs_in (bucket_at (buckets_on (arrays_with a side i b) side) i) ≡ []) i (arrays_with a side i b) new
@@ -43,7 +43,7 @@ module _ {K V : Type 0} where
       subst (λ (x : BucketView K V). ShrinksBy left (pairs_in x ≡ []) i (arrays_with a side i b) new) (put_there a side i b within) h
 
 module _ {K V H : Type 0} where
-  -- a bucket that is another one, and one that is the same
+  -- a bucket that is replaced, and one that is the same
   pub with_same : (hasher : H) (a : ArraysView K V) (side : Side) (i : ℕ) (b c : BucketView K V) → b ≡ c
       → ◌≡◌ {A = TableView K V H} (record { hasher = hasher; arrays = arrays_with a side i b })
       (record { hasher = hasher; arrays = arrays_with a side i c })
@@ -54,13 +54,13 @@ module _ {K V H : Type 0} where
   with_own hasher a side i b same = rw same (ap (λ (d : ArraysView K V). record { hasher = hasher; arrays = d })
       (arrays_with-same a side i))
 
-  -- the same bucket where it fails
+  -- the same bucket if the call fails
   pub same_if_err : {A E : Type 0} (r : Result A E) (hasher : H) (a : ArraysView K V) (s : TableView K V H) (side : Side) (i : ℕ)
       (b : BucketView K V) → record { hasher = hasher; arrays = a } ≡ s → OnErr r (b ≡ bucket_at (buckets_on a side) i)
       → OnErr r (record { hasher = hasher; arrays = arrays_with a side i b } ≡ s)
   same_if_err r hasher a s side i b is kept = on_err r (λ same. with_own hasher a side i b same ∙ is) kept
 
-  -- another bucket where a call succeeds: t is the table inside, and s what it is known as
+  -- another bucket if a call succeeds: t is the table inside, and s the table in the contract
   pub put_if_ok : {A E : Type 0} (r : Result A E) (t s : TableView K V H) (side : Side) (i : ℕ) (b : BucketView K V) (f : BucketView K V
       → BucketView K V)
       → t ≡ s → OnOk r (b ≡ f (bucket_on t.arrays side i))

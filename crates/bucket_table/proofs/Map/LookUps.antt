@@ -1,4 +1,4 @@
--- What look-ups in two arrays say of their map.
+-- What look-ups in two arrays show of their map.
 use Rattle.bucket_table.proofs.Words.{All, All-append, All-map, All-nil, AreHome, ArePlaced, AreTwoArrays, ArraysView, Bool, BucketView}
 use Rattle.bucket_table.proofs.Words.{Contains, Contains-append_left, Contains-append_right, Current, IfNone, IfSome, IsAbsent, IsEntryHome}
 use Rattle.bucket_table.proofs.Words.{IsHome, IsInInterval, IsLocked, IsOneMap, IsThere, IsTrue, IsVacant, List, Meets, None, Old, Option}
@@ -53,18 +53,18 @@ module _ {K V : Type 0} where
   pub pairs_in-vacant : (b : BucketView K V) → IsVacant b → pairs_in b ≡ []
   pairs_in-vacant b vacant = live_pairs-all_free (all_slots b) vacant.free
 
-  -- the bucket with a hash's home is its home
+  -- the bucket at the index of a hash's home is its home bucket
   pub home_bucket-is : (bs : List (BucketView K V)) (n i : ℕ) → IsHome (length bs) n i → bucket_at bs i ≡ home_bucket n bs
   home_bucket-is bs n i at = ap (λ j. bucket_at bs j) (sym (home_of-interval (length bs) i n at.own))
 
 module _ {K V : Type 0} (wants : K → Bool) where
-  -- a wanted pair of one side is one of the map
+  -- a matching pair of one side is one of the map
   wanted_on : (arrays : ArraysView K V) (side : Side) (p : K × V) → IsThere wants (pairs_in_all (buckets_on arrays side)) p
       → IsThere wants (pairs_of arrays) p
   wanted_on arrays Old p (there, is) = (rw (pairs_are arrays) (Contains-append_right (pairs_in_all arrays.current) _ p there), is)
   wanted_on arrays Current p (there, is) = (rw (pairs_are arrays) (Contains-append_left _ (pairs_in_all arrays.linked) p there), is)
 
-  -- where neither side has one, the map has none
+  -- if neither side has one, the map has none
   unwanted_on_both : (arrays : ArraysView K V) → IsAbsent wants (pairs_in_all arrays.current)
       → IsAbsent wants (pairs_in_all arrays.linked) → IsAbsent wants (pairs_of arrays)
   unwanted_on_both arrays current old = rw (pairs_are arrays) (All-append (λ (p : K × V). wants p.0 ≡ false) _ _ current old)
@@ -92,7 +92,7 @@ module _ {K V : Type 0} (wants : K → Bool) where
       let (there, is) = wanted_is wants (n % 256) (home_bucket n (buckets_on arrays side)) p found in
       wanted_on arrays side p (Contains-pairs_in_all (buckets_on arrays side) _ p there, is)
 
-  -- where the old home has no wanted pair, the current home's is the answer
+  -- if the old home has no matching pair, the result is that of the current home
   pub second_home : (n : ℕ) (own : K → Bool) (old : Option (Bor (List (BucketView K V)))) (array : Bor (List (BucketView K V)))
       (current : List (BucketView K V)) (r : Option (Bor K × Bor V)) → old ≡ Some array → own ≡ wants
       → None ≡ pair_wanted wants (n % 256) (home_bucket n array.now) → pair_lent r ≡ pair_wanted own (n % 256) (home_bucket n current)
@@ -114,7 +114,7 @@ module _ {K V : Type 0} (wants : K → Bool) (n : ℕ) (hash : K → ℕ) (own :
       at.home.own)) in
       absurd cc
 
-  -- where a hash's home has no wanted pair, no bucket of the array has one
+  -- if a hash's home has no matching pair, no bucket of the array has one
   unwanted_from_home : (bs : List (BucketView K V)) → AreHome hash bs → pair_wanted wants (n % 256) (home_bucket n bs) ≡ None
       → IsAbsent wants (pairs_in_all bs)
   unwanted_from_home bs all none = All-pairs_in_all (λ (p : K × V). wants p.0 ≡ false) bs
@@ -124,7 +124,7 @@ module _ {K V : Type 0} (wants : K → Bool) (n : ℕ) (hash : K → ℕ) (own :
       subst (λ k. All (λ (x : (K × V) × ℕ). ((x.1 == n % 256) && wants x.0.0) ≡ false) (entries_in (bucket_at bs k))) same
       (none_wanted_is wants (n % 256) (home_bucket n bs) none) j d less)))
 
-  -- where neither home has a wanted pair, the map has none
+  -- if neither home has a matching pair, the map has none
   pub unwanted_from_homes : (arrays : ArraysView K V) → ArePlaced hash arrays
       → pair_wanted wants (n % 256) (home_bucket n arrays.linked) ≡ None → pair_wanted wants (n % 256) (home_bucket n arrays.current) ≡ None
       → IsAbsent wants (pairs_of arrays)
@@ -157,13 +157,13 @@ module _ {K V : Type 0} (wants : K → Bool) (n : ℕ) (hash : K → ℕ) (own :
       let e : (K × V) × ℕ = get_or (entries_in (bucket_at l i)) j d in
       foreign e (length l) i c index (wants e.0.0) refl (all i below j d less) at (λ meets. false≢true (sym is ∙ dead meets)))
 
-  -- where each source of a current home is killed, the old array has no pair of the hash
+  -- if each source of a current home is killed, the old array has no pair of the hash
   pub unwanted_from_sources : (c l : List (BucketView K V)) (index : ℕ) → AreTwoArrays hash c l → IsHome (length c) n index
       → ((i : ℕ) → i < length l → Meets (length l) i (length c) index → (bucket_at l i).killed ≡ true) → IsAbsent wants (pairs_in_all l)
   unwanted_from_sources c l index law at dead = All-pairs_in_all (λ (p : K × V). wants p.0 ≡ false) l (λ i below.
       none_in l i (length c) index (bucket_at l i).killed refl below law.linked_home at (law.killed_empty i below) (dead i below))
 
-  -- where the home of a locked bucket's side has no wanted pair, the map has none
+  -- if the home of a locked bucket's side has no matching pair, the map has none
   absent_on : (arrays : ArraysView K V) (side : Side) (index : ℕ) → ArePlaced hash arrays → IsLocked arrays side index
       → IsHome (length (buckets_on arrays side)) n index → pair_wanted wants (n % 256) (home_bucket n (buckets_on arrays side)) ≡ None
       → IsAbsent wants (pairs_of arrays)
@@ -175,7 +175,7 @@ module _ {K V : Type 0} (wants : K → Bool) (n : ℕ) (hash : K → ℕ) (own :
       unwanted_on_both wants arrays (unwanted_from_home arrays.current law.homes.current_home none)
       (unwanted_from_sources arrays.current arrays.linked index law.homes home (locked.killed refl))
 
-  -- what a search of a locked bucket says where it finds nothing
+  -- what a search of a locked bucket shows if it finds nothing
   pub searched_absent : (arrays : ArraysView K V) (side : Side) (b : BucketView K V) (index : ℕ) → ArePlaced hash arrays
       → IsLocked arrays side index → IsHome (length (buckets_on arrays side)) n index → b ≡ bucket_on arrays side index
       → place_wanted wants (n % 256) b ≡ None → IsAbsent wants (pairs_of arrays)
@@ -184,7 +184,7 @@ module _ {K V : Type 0} (wants : K → Bool) (n : ℕ) (hash : K → ℕ) (own :
       absent_on arrays side index law locked home (rw (← at_home, ← lent) (ap (λ at. pair_at b at) none))
 
 module _ {K V : Type 0} where
-  -- what a look-up in both homes says of the map
+  -- what a look-up in both homes shows of the map
   pub looked_up : (eq : K → K → Bool) (hash : K → ℕ) (wants : K → Bool) (n : ℕ) (r : Option (Bor K × Bor V)) (a : ArraysView K V)
       → IsOneMap eq hash a → ((key : K) → wants key ≡ true → hash key ≡ n) → pair_lent r ≡ pair_looked_up wants n a.linked a.current
       → IfSome r (λ pair. IsThere wants (pairs_of a) (pair.0.now, pair.1.now)) × IfNone r (IsAbsent wants (pairs_of a))

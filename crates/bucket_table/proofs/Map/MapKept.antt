@@ -1,4 +1,4 @@
--- The map of arrays, where a call keeps the pairs.
+-- The map of arrays after a call that keeps the pairs.
 use Rattle.bucket_table.proofs.Words.{ArePlaced, ArraysView, Bool, Err, IsDistinct-IsPermutation, IsEquivalence, IsOneMap, IsPermutation}
 use Rattle.bucket_table.proofs.Words.{IsPermutation-map, IsUnmoved, Keeps, KeepsArrays, KeepsPairs, List, MapState, Ok, OnErr, OnOk}
 use Rattle.bucket_table.proofs.Words.{RelocatesAt, Result, TableView, ℕ, [], ap, arith, entries_of, first_tickets, map, pairs_of, refl, ◌≡◌}
@@ -14,7 +14,7 @@ module _ {K V : Type 0} where
   pub keeps_pairs : (old new : ArraysView K V) → Keeps old new → IsPermutation (pairs_of old) (pairs_of new)
   keeps_pairs old new kept = pairs_kept (entries_of old) (entries_of new) kept.pairs
 
-  -- the arrays are one map still
+  -- the arrays are still one map
   pub one_map_kept : (eq : K → K → Bool) → IsEquivalence eq → (hash : K → ℕ) (old new : ArraysView K V) → IsOneMap eq hash old
       → Keeps old new
       → ArePlaced hash new → IsOneMap eq hash new
@@ -24,13 +24,13 @@ module _ {K V : Type 0} where
     placed = placed;
   }
 
-  -- done or refused, a move keeps the map
+  -- whether it is done or fails, a move keeps the map
   pub kept_of : {A E : Type 0} (r : Result A E) (index : ℕ) (old new : ArraysView K V) → OnOk r (RelocatesAt index old new)
       → OnErr r (IsUnmoved old new) → KeepsArrays old new
   kept_of (Ok x) index old new done refused = done.kept
   kept_of (Err e) index old new done refused = refused.kept
 
-  -- without an array no pair stands anywhere
+  -- without an array no pair is anywhere
   pub nothing_kept : (eq : K → K → Bool) (hash : K → ℕ) (minimum maximum : ℕ)
       → IsOneMap {V = V} eq hash (record { minimum = minimum; maximum = maximum; current = []; linked = []; tickets = first_tickets 0 })
   unfolding IsDistinct
@@ -49,11 +49,11 @@ module _ {K V : Type 0} where
   }
 
 module _ {K V H : Type 0} where
-  -- what stays beside the pairs
+  -- what stays besides the pairs
   pub hasher_kept : (a b : MapState K V H) → KeepsPairs a b → b.hasher ≡ a.hasher
   hasher_kept a b keeps = ap (λ (m : MapState K V H). m.hasher) keeps.others
 
-  -- what stays where the capacities do
+  -- what stays if the capacities do
   pub others_than_pairs : (kind : ℕ) (t s : TableView K V H) → s.hasher ≡ t.hasher → s.arrays.minimum ≡ t.arrays.minimum
       → s.arrays.maximum ≡ t.arrays.maximum → state_of kind s ≡ record (state_of kind t) { pairs = pairs_of s.arrays }
   others_than_pairs kind t s hasher minimum maximum = rw (hasher, minimum, maximum) refl

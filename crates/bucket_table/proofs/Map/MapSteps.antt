@@ -1,4 +1,4 @@
--- The law of one map, and the map itself, where one bucket of one side changes.
+-- The law of one map, and the map itself, when one bucket of one side changes.
 use Rattle.bucket_table.proofs.Words.{AddsPair, All, All-cons, All-map, All-nil, All-permutation, ArraysView, Bool, BucketView}
 use Rattle.bucket_table.proofs.Words.{ChangesValue, Current, Err, IfNone, IfSome, IsAbsent, IsDistinct, IsDistinct-IsPermutation}
 use Rattle.bucket_table.proofs.Words.{IsDistinct-tail, IsEntryHome, IsEquivalence, IsHome, IsLocked, IsOneMap, IsPermutation}
@@ -92,7 +92,7 @@ module _ {K V : Type 0} where
   only_pairs : (b : BucketView K V) (rest : List (K × V)) → map (λ (e : (K × V) × ℕ). e.0) (entries_in b) ++ rest ≡ pairs_in b ++ rest
   only_pairs b rest = ap (λ (l : List (K × V)). l ++ rest) (map-entries_in b)
 
-  -- the pairs of a bucket apart from the others, and those of another in its place
+  -- the pairs of a bucket apart from the others, and those of another bucket in its place
   pub splits : (a : ArraysView K V) (side : Side) (i : ℕ) (b : BucketView K V) → i < length (buckets_on a side) → Splits a side i b
   splits a side i b within =
       let old = bucket_at (buckets_on a side) i in
@@ -135,7 +135,7 @@ module _ {K V H : Type 0} {eq : K → K → Bool} (laws : IsEquivalence eq) (has
   abbrev IsAtHome : (K × V) × ℕ → Type 0
   IsAtHome e = IsEntryHome (hash hasher) (length (buckets_on a side)) i e
 
-  -- with another bucket the arrays are one map, which has changed so; and a bucket that was locked may be
+  -- with the bucket replaced, the arrays are one map, which has changed as stated; and the bucket may be locked if it could before
   pub record Leaves (Changes : MapState K V H → Type 0) (b : BucketView K V) : Type 0 where
     pub one_map : IsOneMap eq (hash hasher) (arrays_with a side i b)
     pub map : Changes (state (arrays_with a side i b))
@@ -156,7 +156,7 @@ module _ {K V H : Type 0} {eq : K → K → Bool} (laws : IsEquivalence eq) (has
     locked = λ locked. locked_change a side i b locked x.alive;
   }
 
-  -- one entry more
+  -- one more entry
   pub inserted : (keeps : ℕ → Bool) (p : K × V) (h : ℕ) → h ≡ hash hasher p.0 → IsHome (length (buckets_on a side)) h i
       → IsAbsent (λ own. eq own p.0) (pairs_of a) → Leaves (AddsPair (state a) p) (slots_after_insertion kind keeps was p (h % 256))
   inserted keeps p h own home none =
@@ -215,7 +215,7 @@ module _ {K V H : Type 0} {eq : K → K → Bool} (laws : IsEquivalence eq) (has
       leaves _ [] [] b x (All-nil _) (distinct_kept eq laws (pairs_of a) _ one.distinct pairs)
       (record { pairs = pairs; others = state_is kind hasher a side i b })
 
-  -- another value beside one key, whose slot is touched or not
+  -- the value of one key is replaced, and its slot is touched or not
   pub wrote_touching : (touches : Bool) (p : K × V) (value : V) (at : Place) → live_pair (slot_in was at) ≡ Some p
       → Leaves (ChangesValue (state a) p value) (bucket_with_value (slots_touched touches was at) at value)
   wrote_touching touches p value at here =

@@ -1,4 +1,4 @@
--- The open tickets stay: what becomes of the arrays says so, call by call.
+-- The open tickets stay, as each call's statement about the arrays implies.
 use Rattle.bucket_table.proofs.Words.{ArraysView, Bool, BucketView, Current, Err, KeepsOpenTickets, None, Ok, Option, Place, ResizesIf}
 use Rattle.bucket_table.proofs.Words.{Result, ShrinksThenPasses, Side, Some, TableView, ℕ, arrays_with, bucket_on, cases_lt, false, inl, inr, refl, true, ◌+◌, ◌-◌}
 use Rattle.bucket_table.specs.Map.ByKey.{ChangesAt, InsertsAt, PreparesThen, ShrinksAt}
@@ -16,7 +16,7 @@ use Rattle.bucket_table.proofs.Rehash.TicketSteps.{bag_set, bag_with}
 use Rattle.bucket_table.proofs.Views.Keeping.{bag_both, bag_same}
 
 module _ {K V : Type 0} where
-  -- a resize pushes an array only where no ticket is open
+  -- a resize pushes an array only if no ticket is open
   pub bag_tried : {E : Type 0} (old : ArraysView K V) (r : Result Bool E) (new : ArraysView K V) → TriesResize old r new
       → KeepsOpenTickets old.tickets new.tickets
   bag_tried old (Ok false) new (keep, same) = rw same (bag_same old.tickets)
@@ -97,7 +97,7 @@ module _ {K V H : Type 0} where
     bag_changed wants change found p =
         bag_then kind hash old new _ p (λ between is. changed_at wants change found between new is)
 
-    -- also where the arrays may shrink then
+    -- also if the arrays may then shrink
     pub bag_taken : (wants : K → Bool) (change : BucketView K V → Place → BucketView K V) (left : Option ℕ) (found : Bool)
         → PreparesThen kind hash old (λ between. ShrinksAt wants change left found between new)
         → KeepsOpenTickets old.arrays.tickets new.arrays.tickets

@@ -5,7 +5,7 @@ use Rattle.bucket_table.specs.Map.Preparing.{HomeWantsMemory, IsReady}
 use Rattle.bucket_table.specs.Rehash.Units.{WorksRange}
 
 module _ {K V : Type 0} where
-  -- where the range of the sources was moved, none is left
+  -- if the range of the sources was moved, none is left
   pub sources_worked : (start end to from index : ℕ) (success : Bool) (old new : ArraysView K V) → WorksRange start end success old new
       → success ≡ true
       → to ≡ length old.current → from ≡ length old.linked → ((i : ℕ) → IsInRange start end i ↔ Meets to index from i)
@@ -23,7 +23,7 @@ module _ {K V : Type 0} where
     killed = λ j other. rw (home.the_one j other.own) dead;
   }
 
-  -- a home for which memory is wanted isn't ready
+  -- a home for which memory is needed isn't ready
   pub wanting_unready : (hash : ℕ) (old new : ArraysView K V) → HomeWantsMemory hash old new → IsReady new hash → ⊥
   wanting_unready hash old new (index, home, wants) ready =
       false≢true (sym wants.alive ∙ ready.killed index home wants.index wants.within wants.one)

@@ -1,4 +1,4 @@
--- What a put does to the slots of a cache's bucket: it is never refused there, and it leaves the chain.
+-- What a put does to the slots of a cache's bucket: it never fails there, and it leaves the chain.
 use Rattle.bucket_table.proofs.Words.{Bool, BucketView, CACHE, Contains, Contains-append_left, IfNone, IfSome, None, Option, Place, Some, ℕ}
 use Rattle.bucket_table.proofs.Words.{ap, false, first_place, flattened, free, get_or-set_same, is_free, length-set, live_from_pair}
 use Rattle.bucket_table.proofs.Words.{live_pair, refl, slot_at, slots_after_insertion, slots_evicted, slots_touched, subst, true, ◌↔◌, ◌∙◌}
@@ -14,14 +14,14 @@ use Rattle.bucket_slots.proofs.ChangedSlots.{live_inside}
 use Rattle.bucket_slots.proofs.FirstPlaces.{first_from-None}
 
 module _ {K V : Type 0} where
-  -- what an eviction says of a bucket
+  -- what an eviction states of a bucket
   pub goes : (s t : BucketView K V) (r : Option (K × V)) → IsNone r ↔ Contains s.own free
       → IfSome r (λ pair. live_pair (slot_at s.own (slot_to_evict s)) ≡ Some pair) → OnSome r (t ≡ slots_evicted s) → IfNone r (t ≡ s)
       → Goes s r × (t ≡ slots_left s r)
   goes s t None none there gone same = (none.0 refl, same)
   goes s t (Some pair) none there gone same = ((λ has. let no = none.1 has in absurd cc, there), gone)
 
-  -- an own slot is free then
+  -- an own slot is then free
   left_free : (s : BucketView K V) (gone : Option (K × V)) → Goes s gone → Contains (slots_left s gone).own free
   left_free s None has = has
   left_free s (Some pair) went =
@@ -35,7 +35,7 @@ module _ {K V : Type 0} where
   placed_own true t pair byte (Some pos) is has = rw is refl
   placed_own false t pair byte (Some pos) is has = rw is refl
 
-  -- so a pair that is placed and touched stands in an own slot
+  -- so a pair that is placed and touched is in an own slot
   pub touched_own : (keeps : Bool) (s : BucketView K V) (gone : Option (K × V)) (pair : K × V) (byte : ℕ) → Goes s gone
       → slots_touched keeps (slots_with (slots_left s gone) pair byte) (place_for_next (slots_left s gone))
       ≡ slots_put keeps (slots_left s gone) pair byte
@@ -43,13 +43,13 @@ module _ {K V : Type 0} where
       let t = slots_left s gone in
       placed_own keeps t pair byte (position is_free t.own) refl (left_free s gone went)
 
-  -- the pair stands there, so the chain stays
+  -- the pair is in an own slot, so the chain stays
   pub chain-slots_put : (keeps : Bool) (s : BucketView K V) (gone : Option (K × V)) (pair : K × V) (byte : ℕ) → Goes s gone
       → (slots_put keeps (slots_left s gone) pair byte).chain ≡ s.chain
   chain-slots_put keeps s None pair byte went = refl
   chain-slots_put keeps s (Some gone) pair byte went = refl
 
-  -- and a place is
+  -- and there is a free place
   left_room : (s : BucketView K V) (gone : Option (K × V)) → Goes s gone → first_place is_free (slots_left s gone) ≡ None → ⊥
   left_room s gone went none =
       let t = slots_left s gone in
@@ -58,7 +58,7 @@ module _ {K V : Type 0} where
       let yes = ap is_free has.2 in
       absurd cc
 
-  -- an insertion into a cache looks at no mark
+  -- an insertion into a cache looks for no tombstones
   for_insertion-cache : (kind : ℕ) (keeps : ℕ → Bool) (s : BucketView K V) → kind ≡ CACHE → slots_for_insertion kind keeps s ≡ s
   for_insertion-cache kind keeps s cache = rw cache refl
 
@@ -68,12 +68,12 @@ module _ {K V : Type 0} where
 
 module _ {K V : Type 0} (kind : ℕ) (marks : ℕ → Bool) (s t : BucketView K V) (gone : Option (K × V)) (cache : kind ≡ CACHE)
     (is : t ≡ slots_left s gone) where
-  -- so it isn't refused
+  -- so it doesn't fail
   pub never_full : Goes s gone → first_place is_free (slots_for_insertion kind marks t) ≡ None → ⊥
   never_full went none = left_room s gone went
       (subst (λ (b : BucketView K V). first_place is_free b ≡ None) (for_insertion-cache kind marks t cache ∙ is) none)
 
-  -- and what it leaves, once the pair is touched
+  -- and what it leaves, after the pair is touched
   pub put_is : Goes s gone → (keeps : Bool) (pair : K × V) (byte : ℕ) (at : Place) (after new : BucketView K V)
       → at ≡ place_for_next (slots_for_insertion kind marks t) → after ≡ slots_after_insertion kind marks t pair byte
       → new ≡ slots_touched keeps after at → new ≡ slots_put keeps (slots_left s gone) pair byte

@@ -1,4 +1,4 @@
--- A pair put into a locked bucket of a cache, after what goes for it, and what that makes of the table in which the bucket was found.
+-- A pair put into a locked bucket of a cache, after an eviction for it, and what that makes of the table in which the bucket was found.
 use Rattle.bucket_table.proofs.Words.{AddsPair, All-permutation, All-tail, ArraysView, Bool, BucketView, CACHE, Err, IsAbsent}
 use Rattle.bucket_table.proofs.Words.{IsEquivalence, IsHome, IsLocked, IsOneMap, IsPermutation-refl, IsPermutation-trans, KeepsPairs}
 use Rattle.bucket_table.proofs.Words.{MapState, None, Ok, Option, Result, Side, Some, TableView, ℕ, ap, arrays_with, bucket_at, bucket_on}
@@ -27,7 +27,7 @@ module _ {K V H : Type 0} where
       → d ≡ record a { pairs = d.pairs }
   others_after a b d first then = then ∙ ap (λ (m : MapState K V H). record m { pairs = d.pairs }) first
 
-  -- a key that is absent is so once a pair is out
+  -- a key that is absent stays absent after a pair is removed
   absent_left : (eq : K → K → Bool) (key : K) (old left : MapState K V H) (gone : Option (K × V)) → Evicts {E = ℕ} old (Ok gone) left
       → IsAbsent (λ own. eq own key) old.pairs → IsAbsent (λ own. eq own key) left.pairs
   absent_left eq key old left None keeps absent =
@@ -36,7 +36,7 @@ module _ {K V H : Type 0} where
       let P : K × V → Type 0 = λ p. eq p.0 key ≡ false in
       All-tail P pair left.pairs (All-permutation P old.pairs (pair ∷ left.pairs) takes.pairs absent)
 
-  -- what goes, then a pair more, then another order
+  -- the eviction, then one more pair, then another order
   put_over : (eq : K → K → Bool) (key : K) (value : V) (old left added new : MapState K V H) (gone : Option (K × V))
       → Evicts {E = ℕ} old (Ok gone) left → AddsPair left (key, value) added → KeepsPairs added new → IsAbsent (λ own. eq own key) old.pairs
       → Puts eq key value old (Ok gone) new
@@ -122,7 +122,7 @@ module _ {K V H : Type 0} {eq : K → K → Bool} (laws : IsEquivalence eq) (has
       (touched_own keeps was gone (key, value) (h % 256) went)
       (subst (λ (s : BucketView K V). LeavesWith (Puts eq key value (state a) (Ok gone)) (slots_touched keeps s at)) is all)
 
-  -- the pair is in, where its key was absent
+  -- the pair is inserted, if its key was absent
   pub absent_put : (gone : Option (K × V)) (b : BucketView K V) (keeps : Bool) (key : K) (value : V) (h : ℕ) → h ≡ hash hasher key
       → IsHome (length (buckets_on a side)) h i → IsAbsent (λ own. eq own key) (pairs_of a) → kind ≡ CACHE → Goes was gone
       → b ≡ slots_put keeps (slots_left was gone) (key, value) (h % 256) → LeavesWith (Puts eq key value (state a) (Ok gone)) b
@@ -141,7 +141,7 @@ module _ {K V H : Type 0} {eq : K → K → Bool} (laws : IsEquivalence eq) (has
   put_leaves (Err (Memory k v)) b keeps key value h alike own home cache x = absurd x
 
 module _ {K V H : Type 0} where
-  -- the same where the map was the same before
+  -- the same, if the map was the same before
   pub then_put : (eq : K → K → Bool) (key : K) (value : V) (old between new : MapState K V H)
       (r : Result (Option (K × V)) (NotInserted K V)) → KeepsPairs old between → Puts eq key value between r new
       → Puts eq key value old r new

@@ -1,4 +1,4 @@
--- A pair stands in the place of another one with an equal key.
+-- A pair replaces another one with an equal key.
 use Rattle.bucket_table.proofs.Words.{All-cons, All-nil, All-permutation, AllByRecursion, ArraysView, Bool, BucketView, Current, IsDistinct}
 use Rattle.bucket_table.proofs.Words.{IsDistinct-tail, IsEntryHome, IsEquivalence, IsHome, IsOneMap, IsPermutation}
 use Rattle.bucket_table.proofs.Words.{IsPermutation-append_left, IsPermutation-cons, IsPermutation-map, IsPermutation-trans, KeepsPairs}
@@ -19,13 +19,13 @@ module _ {K : Type 0} (eq : K → K → Bool) (laws : IsEquivalence eq) (k other
   apart_alike [] apart = apart
   apart_alike (y ∷ ks) apart = (sym (laws.congr k other y same) ∙ apart.0, apart_alike ks apart.1)
 
-  -- distinct keys, and an equal key in the place of one
+  -- distinct keys stay distinct if one is replaced by an equal key
   distinct_alike : (ks : List K) → IsDistinct eq (k ∷ ks) → IsDistinct eq (other ∷ ks)
   distinct_alike ks distinct =
       IsDistinct-cons eq other ks (apart_alike ks (IsDistinct-head eq k ks distinct)) (IsDistinct-tail eq k ks distinct)
 
 module _ {K V H : Type 0} where
-  -- another order, and then one pair in the place of another
+  -- another order, and then one pair is replaced by another
   pub then_replaced : (a b d : MapState K V H) (p q : K × V) → KeepsPairs a b → ReplacesPair b p q d → ReplacesPair a p q d
   then_replaced a b d p q keeps replaces = record {
     rest = replaces.rest;

@@ -1,4 +1,4 @@
--- What a table is once the pair in a live slot was touched, marked or taken out.
+-- What a table is after the pair in a live slot was touched, made a tombstone or taken out.
 use Rattle.bucket_table.proofs.Words.{ArePlaced, ArraysView, Bool, BucketView, ChangesValue, IsEquivalence, IsOneMap, Keeps, KeepsPairs}
 use Rattle.bucket_table.proofs.Words.{MapState, Place, Side, Some, TakesPair, ℕ, arrays_with, bucket_on, bucket_with_value, buckets_on}
 use Rattle.bucket_table.proofs.Words.{length, live_pair, slot_in, slots_marked, slots_touched, slots_without, ◌<◌, ◌≡◌}
@@ -18,7 +18,7 @@ module _ {K V H : Type 0} {eq : K → K → Bool} (laws : IsEquivalence eq) (has
   pub held : IsChangeable a side i
   held = changeable_holding (hash hasher) a side i at p one.placed within here
 
-  -- with these arrays the table is one map, and has the pair no more
+  -- with these arrays the table is one map, and no longer has the pair
   pub record Lacks (new : ArraysView K V) : Type 0 where
     pub one_map : IsOneMap eq (hash hasher) new
     pub map : TakesPair (state a) p (state new)
@@ -38,7 +38,7 @@ module _ {K V H : Type 0} {eq : K → K → Bool} (laws : IsEquivalence eq) (has
       → ((h : K → ℕ) → ArePlaced h (arrays_with a side i (slots_marked (bucket_on a side i) at epoch)) → ArePlaced h new) → Lacks new
   marks epoch new kept placed = lacks _ new (marked laws hash kind side i one held p at epoch here) kept placed
 
-  -- and where nothing else changed
+  -- and if nothing else changed
   pub takes_only : Lacks (arrays_with a side i (slots_without (bucket_on a side i) at))
   takes_only = takes _ (keeps_same _) (λ h law. law)
 
@@ -49,7 +49,7 @@ module _ {K V H : Type 0} {eq : K → K → Bool} (laws : IsEquivalence eq) (has
   pub touches : (keeps : Bool) → Leaves laws hash kind side i one held (KeepsPairs (state a)) (slots_touched keeps (bucket_on a side i) at)
   touches keeps = touched laws hash kind side i one held keeps at
 
-  -- its value is another one
+  -- its value is replaced
   pub writes : (value : V)
       → Leaves laws hash kind side i one held (ChangesValue (state a) p value) (bucket_with_value (bucket_on a side i) at value)
   writes value = wrote laws hash kind side i one held p value at here

@@ -18,17 +18,17 @@ module _ {K V : Type 0} (wants : K → Bool) where
   same_taken pairs slot p q found there taken = subst (λ (r : K × V). wants r.0 ≡ true) (same_Some p q (sym found ∙ taken)) there.1
 
   module _ {H : Type 0} (a b : MapState K V H) where
-    -- where no key is wanted, none was in another order
+    -- if no key matches now, none did in another order
     pub absent_before : KeepsPairs a b → IsAbsent wants b.pairs → IsAbsent wants a.pairs
     absent_before keeps none = All-permutation (λ (p : K × V). wants p.0 ≡ false) b.pairs a.pairs
         (IsPermutation-sym a.pairs b.pairs keeps.pairs) none
 
-    -- nor is the pair that a search found another one than was there before, in another order
+    -- and the pair that a search found was there before, in another order
     pub there_before : (p : K × V) → KeepsPairs a b → IsThere wants b.pairs p → IsThere wants a.pairs p
     there_before p keeps (there, is) =
         (Contains-permutation b.pairs a.pairs p (IsPermutation-sym a.pairs b.pairs keeps.pairs) there, is)
 
-    -- and it is what a slot shows
+    -- and it is the one that a slot shows
     pub shown_before : (slot : Slot K V) (p q : K × V) → KeepsPairs a b → live_pair slot ≡ Some p → IsThere wants b.pairs p
         → live_pair slot ≡ Some q → IsThere wants a.pairs q
     shown_before slot p q keeps found there shown =

@@ -14,7 +14,7 @@ use Rattle.bucket_table.proofs.Map.TakeSteps.{absent_before, same_taken, then_ta
 module _ {K V H : Type 0} {eq : K → K → Bool} (laws : IsEquivalence eq) (hash : H → K → ℕ) (kind : ℕ) (wants : K → Bool) (n : ℕ)
     (hasher : H) (old : TableView K V H) (a : ArraysView K V) (one : IsOneMap eq (hash hasher) a)
     (prepared : IsPrepared kind n old (record { hasher = hasher; arrays = a })) (left : Option ℕ) where
-  -- what taking a wanted pair leaves of a table whose arrays were a after a unit was worked
+  -- what taking a matching pair leaves of a table whose arrays were a after a unit was worked
   pub record IsTaken (r : Option (K × V)) (new : ArraysView K V) : Type 0 where
     pub one_map : IsOneMap eq (hash hasher) new
     pub map : Takes wants (state_of kind old) r (state_of kind (record { hasher = hasher; arrays = new }))
@@ -37,7 +37,7 @@ module _ {K V H : Type 0} {eq : K → K → Bool} (laws : IsEquivalence eq) (has
         };
       }
 
-  -- the current array comes last, so where it has none either no key is wanted
+  -- the current array comes last, so if it has none either, no key matches
   last : (r : Option (K × V)) (new : ArraysView K V) → ((own : K) → wants own ≡ true → hash hasher own ≡ n)
       → pair_wanted wants (n % 256) (home_bucket n a.linked) ≡ None → TakesOn left wants n Current a r new → IsTaken r new
   last (Some pair) new alike absent t = taken_from Current pair new t

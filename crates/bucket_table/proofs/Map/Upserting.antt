@@ -1,4 +1,4 @@
--- A pair put into a locked bucket, or its value written there, and what that makes of the table in which the bucket was found.
+-- A pair inserted into a locked bucket, or its value written there, and what that makes of the table in which the bucket was found.
 use Rattle.bucket_table.proofs.Words.{ArraysView, Bool, BucketView, Err, IsEquivalence, IsHome, IsLocked, IsOneMap, IsPermutation-refl}
 use Rattle.bucket_table.proofs.Words.{KeepsPairs, MapState, None, Ok, Option, Result, Side, Some, TableView, ℕ, ap, bucket_at, bucket_on}
 use Rattle.bucket_table.proofs.Words.{buckets_on, length, pairs_of, refl, true, with_bucket, ◌%◌, ◌∙◌, ◌≡◌}
@@ -37,7 +37,7 @@ module _ {K V H : Type 0} {eq : K → K → Bool} (laws : IsEquivalence eq) (has
       (x.0, absent, record { pairs = IsPermutation-refl (pairs_of a); others = refl }))
 
 module _ {K V H : Type 0} where
-  -- the same where the map was the same before
+  -- the same, if the map was the same before
   pub then_upserted : (eq : K → K → Bool) (key : K) (value : V) (old between new : MapState K V H) (r : Result (Option V) (K × V))
       → KeepsPairs old between → Upserts eq key value between r new → Upserts eq key value old r new
   then_upserted eq key value old between new (Ok None) keeps x =
@@ -47,7 +47,7 @@ module _ {K V H : Type 0} where
   then_upserted eq key value old between new (Err back) keeps x =
       (x.0, absent_before (λ own. eq own key) old between keeps x.1, then_kept old between new keeps x.2)
 
-  -- a bucket found for the hash of a key, and the pair put there or its value written
+  -- a bucket is found for the hash of a key, and the pair is inserted there or its value written
   pub found_upserted : {rule : ResizeRule} (eq : K → K → Bool) (kind h n : ℕ) (keeps : ℕ → Bool) (key : K) (value : V)
       (old between new : TableView K V H)
       (side : Side) (i : ℕ) (r : Result (Option V) (K × V)) (left : BucketView K V) → h ≡ n → FindsBucket rule kind h old side i between

@@ -1,4 +1,4 @@
--- Slots that are listed one after another behind those that their buckets list.
+-- Slots that are listed one after another, after those that their buckets list.
 use Rattle.bucket_table.proofs.Words.{Bool, BucketView, List, ListsArrivals, None, Option, Some, ℕ, [], ap, append-nil, arith, bucket_at}
 use Rattle.bucket_table.proofs.Words.{cases_eq, eq-eqb, false, false≢true, get_or, inl, inr, is_listed, landing_of, length, ne_eqb, refl}
 use Rattle.bucket_table.proofs.Words.{set, sym, take, take_more, true, ◌++◌, ◌+◌, ◌<◌, ◌==◌, ◌∙◌, ◌∷◌, ◌≡◌}
@@ -46,7 +46,7 @@ not_arrived landings (first ∷ order) slot at absent alone =
     (not_there at (landing_of landings first) apart) (not_arrived landings order slot at parts.1 alone)
 
 module _ {K V : Type 0} where
-  -- a bucket that lists slots behind its own ones
+  -- a bucket that lists slots after its own ones
   abbrev pub with_more : BucketView K V → List ℕ → BucketView K V
   with_more b more = record b { listed = b.listed ++ more }
 
@@ -68,7 +68,7 @@ module _ {K V : Type 0} where
         let more : take (k + 1) order ≡ take k order ++ slot ∷ [] = rw slot_is (take_more order k 0 below) in
         ap (λ (those : List ℕ). arrivals landings j those) more ∙ arrivals-append landings j (take k order) slot
 
-    -- no more arrive in a bucket
+    -- no slot more arrives in a bucket
     arrivals_same : (j : ℕ) → slot_there j (landing_of landings slot) ≡ []
         → arrivals landings j (take (k + 1) order) ≡ arrivals landings j (take k order)
     arrivals_same j none = arrivals_more j ∙ ap (λ (those : List ℕ). arrivals landings j (take k order) ++ those) none

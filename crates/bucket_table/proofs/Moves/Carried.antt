@@ -1,4 +1,4 @@
--- Recency that was carried: what the targets list once the pairs of a bucket have landed and their slots were listed.
+-- The carried LRU order: what the targets list after the pairs of a bucket have landed and their slots were listed.
 use Rattle.bucket_table.proofs.Words.{AreHome, Bool, BucketView, CACHE, CarriesRecency, HasLanded, IsBucketOf, KeepsEntries, KeepsPlaces}
 use Rattle.bucket_table.proofs.Words.{List, ListsArrivals, MovesInto, None, Option, Slot, Some, ℕ, [], ap, append-nil, arith, bucket_at}
 use Rattle.bucket_table.proofs.Words.{cases_Bool, cases_eq, entries_in, eqb-true, false, false≢true, filter_map-append, free, homed_len}
@@ -44,7 +44,7 @@ no_arrivals landings j (slot ∷ order) other =
     ap (λ (those : List ℕ). those ++ arrivals landings j order) (nothing_there j (landing_of landings slot) (other slot))
     ∙ no_arrivals landings j order other
 
--- an order that was taken is as much of the bytes as it is long
+-- the first bytes of an order that was taken, as many as its length, are that order
 pub order_back : (order : List ℕ) (bytes : List ℕ) (len : ℕ) → bytes ≡ order_and_zeros order → len ≡ length order → take len bytes ≡ order
 order_back order bytes len bytes_is len_is = rw (bytes_is, len_is) (take-append_seam order (replicate (32 - length order) 0))
 
@@ -62,7 +62,7 @@ module _ {K V : Type 0} where
   live_pairs-alike (marked p b) (live q c) xs ys same rest = cc
   live_pairs-alike (marked p b) (marked q c) xs ys same rest = rest
 
-  -- one slot more has arrived, or landed elsewhere
+  -- one more slot has arrived, or its pair landed elsewhere
   carried_next : (own source_own : List (Slot K V)) (j slot : ℕ) (found : Option Landing) (xs ys : List ℕ)
       → ((at : Landing) → found ≡ Some at → at.home ≡ j → live_pair (slot_at own at.slot) ≡ live_pair (slot_at source_own slot))
       → live_pairs (map (slot_at own) xs) ≡ live_pairs (map (slot_at source_own) ys)
@@ -86,7 +86,7 @@ module _ {K V : Type 0} where
       (filter (λ at. is_own_of j (home_of_landing (landing_of landings at))) order) (same slot)
       (carried_all own source_own j landings order same)
 
-  -- nothing is carried where no listed slot has a pair
+  -- nothing is carried if no listed slot has a pair
   carries_none : (s : BucketView K V) (c d : List (BucketView K V))
       → ((j : ℕ) → listed_pairs (bucket_at d j) ≡ listed_pairs (bucket_at c j))
       → ((slot : ℕ) (pair : K × V) → is_listed s.listed slot ≡ true → live_pair (slot_at s.own slot) ≡ Some pair → ⊥) → KeepsPlaces c d
@@ -228,13 +228,13 @@ module _ {K V : Type 0} where
     pub homes_still : AreHome hash d → AreHome hash e
     homes_still homes i within = rw (listed.len, entries_same i) (homes i (omega (arith, listed.len, within)))
 
-  -- all that is carried
+  -- everything that is carried
   pub record IsCarried (hash : K → ℕ) (s left : BucketView K V) (c e : List (BucketView K V)) : Type 0 where
     pub moved : MovesInto hash s c left e
     pub homes : AreHome hash e
     pub recency : CarriesRecency s c e
 
-  -- the same in the words of the calls: t is s with its list taken, as bytes of which so many are the order
+  -- the same as the calls state it: t is s with its list taken, and the order is the first `len` of the bytes
   pub carried_over : (kind : ℕ) (hash : K → ℕ) (s t left : BucketView K V) (c d e : List (BucketView K V))
       (landings : List (Option Landing))
       (bytes : List ℕ) (len : ℕ) → IsBucketOf kind s → length landings ≡ 32 → t ≡ slots_unlisted s → bytes ≡ order_and_zeros s.listed

@@ -1,4 +1,4 @@
--- The recency order that goes along where old buckets move on, one step after another.
+-- The LRU order that moves along when old buckets move, one step after another.
 use Rattle.bucket_table.proofs.Words.{All, All-append, All-head, All-nil, All-tail, ArraysView, Bool, BucketView, CarriesRecency, Contains}
 use Rattle.bucket_table.proofs.Words.{Contains-append_cases, Contains-append_left, Contains-append_right, HasLanded, IsDistinct}
 use Rattle.bucket_table.proofs.Words.{IsDistinct-IsPermutation, IsEquivalence, IsPermutation, IsPermutation-map, KeepsPlaces, List, None}
@@ -25,7 +25,7 @@ only : (first i : ℕ) → Contains (first ∷ []) i → first ≡ i
 only first i (zero, below, here) = here
 only first i (suc k, below, here) = absurd (omega (arith, below))
 
--- of the lists under some numbers, those that are the same under another function, and none of the others has anything
+-- the lists of some numbers under one function are those of fewer numbers under another, if all other lists are empty
 kept_only : {A : Type 0} (f g : ℕ → List A) (Gone : ℕ → Type 0) → ((i : ℕ) → Gone i → g i ≡ [])
     → ((i : ℕ) → Gone i ⊎ (g i ≡ f i)) → (more : List ℕ)
     → (less : List ℕ) × (flat_map g more ≡ flat_map f less) × ((i : ℕ) → Contains more i → Contains less i ⊎ Gone i)
@@ -76,7 +76,7 @@ module _ {K V : Type 0} where
   unchained_empty b none =
       nil_from_length (chained_pairs b) (omega (arith, ap length none, length-live_pairs-append b.own (flattened b.chain)))
 
-  -- no bucket has moved on
+  -- no bucket has moved
   pub carries_unmoved : (old new : ArraysView K V)
       → ((i : ℕ) → (listed_pairs (bucket_at new.linked i) ≡ listed_pairs (bucket_at old.linked i))
       × (pairs_in (bucket_at new.linked i) ≡ pairs_in (bucket_at old.linked i))
@@ -95,13 +95,13 @@ module _ {K V : Type 0} where
   pub order_same : (a : ArraysView K V) → CarriesOrder a a
   order_same a = carries_unmoved a a (λ i. (refl, refl, refl)) (stay_same a.current) (λ j. refl)
 
-  -- the tickets are nothing to the order
+  -- the tickets don't matter for the order
   pub order_at_other_tickets : (tickets : TicketState) (old new : ArraysView K V) → CarriesOrder (record old { tickets = tickets }) new
       → CarriesOrder old new
   order_at_other_tickets tickets old new c =
       record { moved = c.moved; left = c.left; stay = c.stay; arrived = c.arrived; carried = c.carried; in_order = c.in_order }
 
-  -- a pair that has landed stands in some bucket
+  -- a pair that has landed is in some bucket
   stands : (d : List (BucketView K V)) (p : K × V) (landing : Option ℕ) → HasLanded d p landing
       → (j : ℕ) × Contains (pairs_in (bucket_at d j)) p
   stands d p (Some j) has = (j, in_own (bucket_at d j) p has)
@@ -114,13 +114,13 @@ module _ {K V : Type 0} where
     | inr chain ↦ (None, (j, chain))
   ]
 
-  -- where all pairs stay, one that has landed stays where it is
+  -- if all pairs stay, one that has landed stays where it is
   landed_still : (c d : List (BucketView K V)) → KeepsPlaces c d → (p : K × V) (landing : Option ℕ) → HasLanded c p landing
       → HasLanded d p landing
   landed_still c d stay p (Some j) has = own_still c d stay j p has
   landed_still c d stay p None (j, has) = (j, chain_still c d stay j p has)
 
-  -- no two keys are equal in the one and in the other
+  -- no two keys are equal in one and in the other
   once_after : (eq : K → K → Bool) → IsEquivalence eq → (old new : ArraysView K V) → IsPermutation (entries_of old) (entries_of new)
       → IsDistinct eq (map (λ (p : K × V). p.0) (pairs_of old)) → IsDistinct eq (map (λ (p : K × V). p.0) (pairs_of new))
   once_after eq laws old new moved once =
@@ -133,7 +133,7 @@ module _ {K V : Type 0} where
       subst (λ (ps : List (K × V)). IsDistinct eq (map (λ (p : K × V). p.0) ps))
       (map-append (λ (e : (K × V) × ℕ). e.0) (entries_among a.current) (entries_among a.linked)) once
 
-  -- one old bucket has moved on
+  -- one old bucket has moved
   pub order_one : (index : ℕ) (old new : ArraysView K V) → IsPermutation (entries_of old) (entries_of new)
       → pairs_in (bucket_at new.linked index) ≡ [] → ((i : ℕ) → (i ≡ index → ⊥) → bucket_at new.linked i ≡ bucket_at old.linked i)
       → CarriesRecency (bucket_at old.linked index) old.current new.current → CarriesOrder old new
@@ -207,7 +207,7 @@ module _ {K V : Type 0} where
       ]
     ]
 
-    -- those of the first step stay where they stood, and those of the second were as they had been
+    -- the pairs of the first step stay where they were, and those of the second were unchanged before it
     order_first : (i : ℕ) → Contains first.moved i → WentInOrder new.current (pairs_in (bucket_at old.linked i))
     order_first i has =
         order_still mid.current new.current second.stay (pairs_in (bucket_at old.linked i)) (first.in_order i has)

@@ -1,4 +1,4 @@
--- Recency that was carried, by keys: which of a bucket's listed pairs stand in own slots of a target, where no two keys are equal.
+-- The carried LRU order, by keys: which of a bucket's listed pairs are in own slots of a target, if no two keys are equal.
 use Rattle.bucket_table.proofs.Words.{ArraysView, Bool, BucketView, CarriesRecency, Contains-append_left, Contains-append_right, Err}
 use Rattle.bucket_table.proofs.Words.{HasLanded, IsDistinct, IsDistinct-IsPermutation, IsEquivalence, IsOneMap, IsPermutation-append_left}
 use Rattle.bucket_table.proofs.Words.{IsPermutation-map, IsPermutation-refl, List, None, Ok, OnOk, Option, Result, Slot, Some}
@@ -62,7 +62,7 @@ module _ {K V : Type 0} where
   in_chain b p has = subst (λ (l : List (K × V)). Contains l p) (sym (filter_map-append live_pair b.own (flattened b.chain)))
       (Contains-append_right (live_pairs b.own) (live_pairs (flattened b.chain)) p has)
 
-  -- the pairs that don't stand in own slots of bucket j
+  -- the pairs that aren't in own slots of bucket j
   abbrev others : List (BucketView K V) → List (K × V) → ℕ → List (K × V)
   others c more j = live_pairs (flattened (bucket_at c j).chain) ++ (pairs_among (set c j empty_bucket) ++ more)
 
@@ -85,7 +85,7 @@ module _ {K V : Type 0} where
       let shape : ((own ++ chain) ++ rest) ++ more ≡ own ++ (chain ++ (rest ++ more)) = simp append_assoc in
       subst (IsPermutation (pairs_among c ++ more)) shape (IsPermutation-append_left more _ _ moved)
 
-  -- no other place has a pair with the key of an own slot's
+  -- no other place has a pair with the key of a pair in an own slot
   module _ (eq : K → K → Bool) (laws : IsEquivalence eq) (c : List (BucketView K V)) (more : List (K × V))
       (once : IsDistinct eq (keys (pairs_among c ++ more))) where
     not_own : (j : ℕ) (p : K × V) → (j < length c → Contains (others c more j) p) → has_own_key eq (bucket_at c j) p.0 ≡ false
@@ -111,7 +111,7 @@ module _ {K V : Type 0} where
         Contains-append_right (live_pairs (flattened (bucket_at c j).chain)) (pairs_among (set c j empty_bucket) ++ more) p
         (Contains-append_left (pairs_among (set c j empty_bucket)) more p (among (set c j empty_bucket) i p still))
 
-    -- where a pair landed tells in which bucket's own slots its key is
+    -- the place where a pair landed determines the bucket that has its key in an own slot
     pub landing_tells : (j : ℕ) (p : K × V) (landing : Option ℕ) → HasLanded c p landing
         → is_own_of j landing ≡ has_own_key eq (bucket_at c j) p.0
     landing_tells j p (Some i) has = elim (cases_Bool (i == j)) [
@@ -156,7 +156,7 @@ module _ {K V : Type 0} where
       carried.order j ∙ ap (λ (those : List (K × V)). listed_pairs (bucket_at c j) ++ those)
       (passed_all (slot_at s.own) (λ slot. is_own_of j (carried.landing slot)) test s.listed tells)
 
-  -- done or refused, in the words of the call
+  -- whether it is done or fails, as the call states it
   pub carried_still : {A E : Type 0} (r : Result A E) (eq : K → K → Bool) → IsEquivalence eq → (hash : K → ℕ) (s : BucketView K V)
       (c : List (BucketView K V)) (arrays : ArraysView K V)
       → IsOneMap eq hash arrays → OnOk r (CarriesRecency s c arrays.current) → OnOk r (CarriesPairs eq (listed_pairs s) c arrays.current)

@@ -10,7 +10,7 @@ use Rattle.bucket_table.proofs.Moves.RoomMade.{homed_few}
 use Rattle.bucket_table.proofs.Moves.Ways.{key_is}
 
 module _ {K V : Type 0} (hash : K → ℕ) (len start : ℕ) where
-  -- between two steps: what is counted and what is ahead make all, and no pair ahead has its home outside the counts
+  -- between two steps: the counted pairs and those ahead are all, and no pair ahead has its home outside the counts
   pub record IsCounting (counts : List ℕ) (s : BucketView K V) (at : Place) : Type 0 where
     pub counted : (k : ℕ) → k < length counts → get_or counts k 0 + homed_len hash len (start + k) (pairs_ahead s at) ≡ homed_len hash len
         (start + k) (pairs_in s)
@@ -23,7 +23,7 @@ module _ {K V : Type 0} (hash : K → ℕ) (len start : ℕ) where
     in_range = all;
   }
 
-  -- the next pair's home is among the counts, and one more of its home fits
+  -- the next pair's home is among the counts, and its count can be raised by one
   pub record IsNextHome (counts : List ℕ) (s : BucketView K V) (home : ℕ) : Type 0 where
     pub low : start ≤ home
     pub within : home - start < length counts
@@ -67,7 +67,7 @@ module _ {K V : Type 0} (hash : K → ℕ) (len start : ℕ) where
             (λ (q : K × V). IsInRange start (start + length counts) (home_of len (hash q.0))) p (pairs_ahead s new) all);
       }
 
-  -- a step of the walk, a key read, its hash and its home: in the words of the calls
+  -- a step of the walk: a key read, its hash and its home, as the calls state them
   module _ (counts : List ℕ) (s : BucketView K V) (old new : Place) (k : K) (h home : ℕ) (counting : IsCounting counts s old)
       (next : MovesToNext s old new)
       (read : option_map (λ (q : K × V). q.0) (pair_of (slot_in s new)) ≡ Some k) (hashed : h ≡ hash k) (home_is : IsHome len h home) where
@@ -85,7 +85,7 @@ module _ {K V : Type 0} (hash : K → ℕ) (len start : ℕ) where
   pub fewer_ahead : (s : BucketView K V) (old new : Place) → MovesToNext s old new → length (pairs_ahead s new) < length (pairs_ahead s old)
   fewer_ahead s old new next = omega (arith, ap length next.ahead)
 
-  -- at the end all are counted
+  -- at the end all pairs are counted
   pub counting_done : (counts : List ℕ) (s : BucketView K V) (at : Place) → IsCounting counts s at → pairs_ahead s at ≡ []
       → (k : ℕ) → k < length counts → get_or counts k 0 ≡ homed_len hash len (start + k) (pairs_in s)
   counting_done counts s at counting end k within = let whole = rw end at (counting.counted k within) in omega (arith, whole)

@@ -1,4 +1,4 @@
--- One bucket in the place of another, and what that does to all the live pairs.
+-- One bucket replaced by another, and what that does to all live pairs.
 use Rattle.bucket_table.proofs.Words.{BucketView, IsPermutation, IsPermutation-append_right, IsPermutation-trans, List, ℕ, [], arith}
 use Rattle.bucket_table.proofs.Words.{bucket_at, cases_eq, entries_among, entries_in, get_or-set_same, inl, inr, length, rotated, set, suc}
 use Rattle.bucket_table.proofs.Words.{zero, ◌++◌, ◌<◌, ◌∷◌, ◌≡◌}
@@ -6,7 +6,7 @@ use Rattle.std.proofs.lemmas.List.{get_or-set_other, length-set}
 use Rattle.bucket_slots.proofs.Entries.{regrouped}
 
 module _ {K V : Type 0} where
-  -- another bucket at an index exchanges ys for xs among all, where it does so in the bucket
+  -- another bucket at an index exchanges ys for xs among all, if it does so in the bucket
   pub exchanged : (xs ys : List ((K × V) × ℕ)) (buckets : List (BucketView K V)) (i : ℕ) (b : BucketView K V) → i < length buckets
       → IsPermutation (xs ++ entries_in (bucket_at buckets i)) (ys ++ entries_in b)
       → IsPermutation (xs ++ entries_among buckets) (ys ++ entries_among (set buckets i b))

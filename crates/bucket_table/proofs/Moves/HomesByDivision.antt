@@ -3,7 +3,7 @@ use Rattle.bucket_table.proofs.Words.{IsHome, IsInInterval, IsLength, ℕ, ap, a
 use Rattle.bucket_table.proofs.Words.{◌/◌, ◌<◌, ◌^◌, ◌∙◌, ◌≡◌, ◌≤◌}
 use Rattle.std.proofs.Math.Nat.{add-mul, div-mul-le_self, le-div_iff_mul-le, lt-div-mul-add, one-mul}
 
--- a hash in an interval is as many widths on
+-- the home of a hash is the index of its interval
 pub home_of-interval : (len index hash : ℕ) → IsInInterval len index hash → home_of len hash ≡ index
 home_of-interval len index hash (low, high) =
     let w : ℕ = interval_width len in
@@ -28,7 +28,7 @@ some_width len long =
     let one : 1 ≤ 2 ^ 64 / len = (le-div_iff_mul-le some).1 (omega (arith, long.at_most)) in
     omega (arith, one)
 
--- an index below the length that is the quotient is the home
+-- if the quotient is an index below the length, it is the home
 pub home_is : (len hash index : ℕ) → IsLength len → index < len → home_of len hash ≡ index → IsHome len hash index
 home_is len hash index long within is = record {
   within = within;

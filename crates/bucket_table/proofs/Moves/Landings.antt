@@ -14,7 +14,7 @@ use Rattle.bucket_table.specs.Layout.Landings.{AreListable, HaveLanded, IsListab
 use Rattle.bucket_table.proofs.Moves.Exchanges.{ChangesAt, changes_at, each_after}
 use Rattle.bucket_table.proofs.Moves.Staying.{place_kept, stay_both, stay_same}
 
--- what is said of a pair that moved: the own slot in which it landed, or nothing
+-- what is recorded of a pair that moved: the own slot in which it landed, or nothing
 abbrev IsSaid : (landings : List (Option Landing)) (from : Place) (home : ℕ) (to : Place) (said : List (Option Landing)) → Type 0
 IsSaid landings from home to said = (from.block ≡ 0 × to.block ≡ 0 × from.pos < length landings
     × said ≡ set landings from.pos (Some (record { home = home; slot = to.pos })))
@@ -36,20 +36,20 @@ is_said landings from home to = elim (cases_eq from.block 0) [
   ]
 ]
 
--- a new table says nothing
+-- a new table records nothing
 pub none_said : (n slot : ℕ) → landing_of (replicate n None) slot ≡ None
 none_said zero slot = refl
 none_said (suc n) zero = refl
 none_said (suc n) (suc slot) = none_said n slot
 
 module _ {K V : Type 0} where
-  -- an own slot whose pair has moved: where the table says nothing of it, its pair stands in a chain
+  -- an own slot whose pair has moved: if the table has no record of it, its pair is in a chain
   pub record HasGone (s0 s : BucketView K V) (c : List (BucketView K V)) (landings : List (Option Landing)) (slot : ℕ) : Type 0 where
     pub gone : live_pair (slot_at s.own slot) ≡ None
     pub in_chain : (pair : K × V) → slot < length landings → live_pair (slot_at s0.own slot) ≡ Some pair
         → landing_of landings slot ≡ None → (j : ℕ) × StandsInChain (bucket_at c j) pair
 
-  -- between two moves: what the table says, and of each own slot that it is as it was, or its pair has moved
+  -- between two moves: what the table records, and that each own slot is as it was, or its pair has moved
   pub record AreLanding (hash : K → ℕ) (s0 : BucketView K V) (c0 : List (BucketView K V)) (s : BucketView K V) (c : List (BucketView K V))
       (landings : List (Option Landing)) : Type 0 where
     pub table : AreListable landings c
@@ -80,7 +80,7 @@ module _ {K V : Type 0} where
       → live_pair (slot_at s.own at.pos) ≡ Some p
   own_slot_of s at p own here = rw own at here
 
-  -- p is placed in bucket j of c, whose laws hold; d is the array then
+  -- p is placed in bucket j of c, whose laws hold; d is the array after that
   module _ {kind j : ℕ} {c d : List (BucketView K V)} (p : K × V) (b : ℕ) (laws : IsBucketOf kind (bucket_at c j))
       (put : ChangesAt j (slots_with (bucket_at c j) p b) c d) where
     live_kept : (i slot : ℕ) → is_live (slot_at (bucket_at c i).own slot) ≡ true
@@ -135,7 +135,7 @@ module _ {K V : Type 0} where
     module _ {hash : K → ℕ} {s0 s : BucketView K V} {c0 : List (BucketView K V)} {landings : List (Option Landing)} (from : Place)
         (landing : AreLanding hash s0 c0 s c landings) (here : live_pair (slot_in s from) ≡ Some p)
         (room : first_place is_free (bucket_at c j) ≡ None → ⊥) where
-      -- a slot whose pair stays or has gone before
+      -- a slot whose pair stays or has moved before
       each_other : (said : List (Option Landing)) (slot : ℕ) → length said ≡ length landings → (from.block ≡ 0 → slot ≡ from.pos → ⊥)
           → landing_of said slot ≡ landing_of landings slot
           → (slot_at (slots_vacated s from).own slot ≡ slot_at s0.own slot) ⊎ HasGone s0 (slots_vacated s from) d said slot
@@ -157,7 +157,7 @@ module _ {K V : Type 0} where
       pair_still slot at said = ap live_pair (live_kept at.home at.slot (landing.table.each slot at said).live) ∙ landing.same_pair slot at
           said
 
-      -- what stood in the own slot that is vacated stood there from the start
+      -- what was in the own slot that is vacated was there from the start
       from_start : from.block ≡ 0 → live_pair (slot_at s0.own from.pos) ≡ Some p
       from_start own =
           let now = own_slot_of s from p own here in
@@ -174,7 +174,7 @@ module _ {K V : Type 0} where
       same_pair : (q : K × V) → from.block ≡ 0 → live_pair (slot_at s0.own from.pos) ≡ Some q → p ≡ q
       same_pair q own is = let first = from_start own in cc
 
-      -- it leaves the chain, lands in one, or isn't asked for: the table says nothing of it
+      -- it leaves the chain, lands in one, or the table has no room: nothing is recorded
       landed_elsewhere : (from.block ≡ 0 → (place_for_next (bucket_at c j)).block ≡ 0 → from.pos < length landings → ⊥)
           → AreLanding hash s0 c0 (slots_vacated s from) d landings
       landed_elsewhere elsewhere = record {
@@ -201,7 +201,7 @@ module _ {K V : Type 0} where
         same_lists = lists_still;
       }
 
-      -- it lands in an own slot, which the table says
+      -- it lands in an own slot, which the table records
       module _ (own : from.block ≡ 0) (lands : (place_for_next (bucket_at c j)).block ≡ 0) (asked : from.pos < length landings)
           (within : j < length c)
           (homed_here : homed_len hash (length c0) j (pairs_in s0) ≡ 0 → ⊥) where
@@ -214,7 +214,7 @@ module _ {K V : Type 0} where
         said_other : (slot : ℕ) → (slot ≡ from.pos → ⊥) → landing_of said slot ≡ landing_of landings slot
         said_other slot apart = get_or-set_other landings from.pos slot (Some at_now) None apart
 
-        -- what the table says of a slot is new, or it said it before
+        -- what the table records of a slot is new, or was recorded before
         said_before : (slot : ℕ) (at : Landing) → landing_of said slot ≡ Some at
             → ((slot ≡ from.pos) × (at_now ≡ at)) ⊎ (landing_of landings slot ≡ Some at)
         said_before slot at is = elim (cases_eq slot from.pos) [

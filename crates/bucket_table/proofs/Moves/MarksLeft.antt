@@ -1,4 +1,4 @@
--- The marks of a bucket whose pairs move on: they stay where they are, also as the bucket is killed.
+-- The tombstones of a bucket whose pairs move: they stay where they are, even when the bucket is killed.
 use Rattle.bucket_table.proofs.Words.{Bool, BucketView, INDEX, IsBucketOf, List, Option, Slot, Some, ℕ, [], all_slots, ap, append-nil}
 use Rattle.bucket_table.proofs.Words.{arith, block_at, cond, cons_option, false, filter_map-append, flattened, free, get_or, length}
 use Rattle.bucket_table.proofs.Words.{length-append, live, live_pair, marked, marks_in, nil_from_length, refl, row_at, rows_with, set}
@@ -27,7 +27,7 @@ module _ {A B : Type 0} where
       ap (λ (those : List B). f c ++ those) (flat_map-alike f items i a d same)
 
 module _ {K V : Type 0} where
-  -- a live slot that is vacated was no mark
+  -- a live slot that is vacated wasn't a tombstone
   row_vacated : (slots : List (Slot K V)) (pos : ℕ) (p : K × V) → live_pair (slot_at slots pos) ≡ Some p
       → marked_entries (set slots pos free) ≡ marked_entries slots
   row_vacated slots pos p here =
@@ -62,7 +62,7 @@ module _ {K V : Type 0} where
       let own_none : own ≡ [] = nil_from_length own (omega (arith, long, length-append own (marked_entries (flattened s.chain)))) in
       filter_map-append marked_entry s.own [] ∙ append-nil own ∙ own_none ∙ sym (none refl)
 
-  -- an index keeps its chain, and a bucket of another kind has no mark
+  -- an index keeps its chain, and a bucket of another kind has no tombstone
   pub marks_in-killed : (kind : ℕ) (s left : BucketView K V) → IsBucketOf kind s → marks_in left ≡ marks_in s
       → marks_in (slots_killed kind left) ≡ marks_in s
   marks_in-killed kind s left laws same =

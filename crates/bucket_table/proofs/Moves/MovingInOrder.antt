@@ -1,4 +1,4 @@
--- The pairs of a bucket, which go in the order of its slots where they move to their homes.
+-- The pairs of a bucket, which move to their homes in slot order.
 use Rattle.bucket_table.proofs.Words.{All, All-cons, All-head, All-nil, All-tail, BucketView, Contains, IsBucketOf, List, None, Option}
 use Rattle.bucket_table.proofs.Words.{Some, [], ap, append-nil, append_assoc, arith, bucket_at, cases_eq, false, inl, inr}
 use Rattle.bucket_table.proofs.Words.{is_free, length, live_from_pair, live_not_free, live_pair, live_pairs, pairs_in, refl, set, slot_at}
@@ -43,7 +43,7 @@ module _ {K V : Type 0} where
       let same = ap length (same_made (λ (t : BucketView K V). t.own) b refl) in
       true≢false (ap is_free (sym (was_free b p byte own)) ∙ full next.pos (omega (arith, within, same, long)))
 
-  -- where pairs stay they stand where they stood
+  -- pairs that stay are where they were
   module _ (c d : List (BucketView K V)) (stay : KeepsPlaces c d) where
     pub own_still : (j : ℕ) (p : K × V) → Contains (live_pairs (bucket_at c j).own) p → Contains (live_pairs (bucket_at d j).own) p
     own_still j p has =
@@ -82,7 +82,7 @@ module _ {K V : Type 0} where
   order_still c d stay (p ∷ ps) order =
       ((λ k q below. went_still c d stay p _ (order.0 k q below)), order_still c d stay ps order.1)
 
-  -- one pair more, before which all have gone
+  -- one more pair, before which all others have moved
   order_more : (c : List (BucketView K V)) (ps : List (K × V)) (q : K × V) → WentInOrder c ps → All (λ p. WentFirst c p q) ps
       → WentInOrder c (ps ++ q ∷ [])
   order_more c [] q order all = (All-nil (λ r. WentFirst c q r), tt)
@@ -135,7 +135,7 @@ module _ {K V : Type 0} where
       )
     ]
 
-    -- one that landed in a chain did so where no own slot was free, so that p comes to no own slot there
+    -- a pair that landed in a chain did so because no own slot was free, so p gets no own slot there
     went_now : (r : K × V) → HasLandedFull c r → WentFirst d r p
     went_now r landed = elim (cases_eq (place_for_next (bucket_at c j)).block 0) [
       | inr other ↦ inr (inl (j, put_chain other))

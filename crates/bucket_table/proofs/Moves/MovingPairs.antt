@@ -36,14 +36,14 @@ module _ {K V : Type 0} (hash : K → ℕ) where
       → homed_len hash len index qs ≡ homed_len hash len index ps
   homed-permutation len index ps qs moved = sum_by-IsPermutation (λ (q : K × V). cond (home_of len (hash q.0) == index) 1 0) ps qs moved
 
-  -- the one whose home it is counts
+  -- a pair whose home it is counts
   pub homed_here : (len index : ℕ) (p : K × V) (ps : List (K × V)) → home_of len (hash p.0) ≡ index
       → homed_len hash len index (p ∷ ps) ≡ 1 + homed_len hash len index ps
   homed_here len index p ps here =
       let yes : (home_of len (hash p.0) == index) ≡ true = rw here (grind (arith, nat_tests)) in
       homed-cons len index p ps ∙ ap (λ (t : Bool). cond t 1 0 + homed_len hash len index ps) yes
 
-  -- no other one counts
+  -- no other pair counts
   pub homed_elsewhere : (len index : ℕ) (p : K × V) (ps : List (K × V)) → (home_of len (hash p.0) ≡ index → ⊥)
       → homed_len hash len index (p ∷ ps) ≡ homed_len hash len index ps
   homed_elsewhere len index p ps apart =
@@ -76,7 +76,7 @@ module _ {K V : Type 0} (hash : K → ℕ) where
         same_marks = two.same_marks ∙ one.same_marks;
       }
 
-  -- between two moves: what has moved from s0 to c0 and where it landed, and that the rest, all of it ahead of the pointer, can move
+  -- between two moves: what has moved from s0 to c0 and where it landed, and that the rest, which is all ahead of the pointer, can move
   pub record IsMoving (start end : ℕ) (s0 : BucketView K V) (c0 : List (BucketView K V)) (s : BucketView K V) (c : List (BucketView K V))
       (landings : List (Option Landing)) (at : Place) : Type 0 where
     pub moves : MovesInto hash s0 c0 s c
@@ -89,7 +89,7 @@ module _ {K V : Type 0} (hash : K → ℕ) where
       → IsPermutation (pairs_in s) (p ∷ pairs_in t)
   pairs_left s t p byte out = rw (← map-entries_in s, ← map-entries_in t) (IsPermutation-map (λ (e : (K × V) × ℕ). e.0) _ _ out)
 
-  -- where the next pair's home is, a slot is free
+  -- the next pair's home has a free slot
   at_home_of : (start end : ℕ) (s t : BucketView K V) (c : List (BucketView K V)) (p : K × V) (byte j : ℕ) → CanMoveInto hash start end s c
       → IsPermutation (entries_in s) ((p, byte) ∷ entries_in t) → IsHome (length c) (hash p.0) j → 0 < free_len_in (bucket_at c j)
   at_home_of start end s t c p byte j ready out home =
@@ -97,7 +97,7 @@ module _ {K V : Type 0} (hash : K → ℕ) where
       let here = homed_here (length c) j p (pairs_in t) (home_of-interval (length c) j (hash p.0) home.own) in
       omega (arith, ready.room j home.within, left, here)
 
-  -- p, whose home is bucket j, moves there from s, of which t is left; d is the array then
+  -- p, whose home is bucket j, moves there from s, of which t is left; d is the array after that
   module _ {start end : ℕ} {s : BucketView K V} {c d : List (BucketView K V)} {j : ℕ} (t : BucketView K V) (p : K × V) (h byte : ℕ)
       (ready : CanMoveInto hash start end s c) (out : IsPermutation (entries_in s) ((p, byte) ∷ entries_in t))
       (way : IsWay hash (length c) p j h)
@@ -186,7 +186,7 @@ module _ {K V : Type 0} (hash : K → ℕ) where
   same_pair : (x : Slot K V) (p q : K × V) → live_pair x ≡ Some p → live_pair x ≡ Some q → q ≡ p
   same_pair x p q one two = cc
 
-  -- the home of a pair that stands in the bucket has a free slot
+  -- the home of a pair that is in the bucket has a free slot
   pub home_has_room : {start end : ℕ} {s : BucketView K V} {c : List (BucketView K V)} (at : Place) (p : K × V) {h j : ℕ}
       → CanMoveInto hash start end s c → live_pair (slot_in s at) ≡ Some p → IsWay hash (length c) p j h
       → first_place is_free (bucket_at c j) ≡ None → ⊥
@@ -198,7 +198,7 @@ module _ {K V : Type 0} (hash : K → ℕ) where
   module _ {start end kind : ℕ} {s0 s t : BucketView K V} {c0 c d : List (BucketView K V)} {landings said : List (Option Landing)}
       {old new : Place} (moving : IsMoving start end s0 c0 s c landings old) (next : MovesToNext s old new)
       (one : MovesHome kind hash new s c landings t d said) where
-    -- where the pair goes, a pair of the bucket that is moved has its home
+    -- the bucket that a pair moves to is the home of a pair of the bucket that is moved
     homed_there : homed_len hash (length c0) one.home (pairs_in s0) ≡ 0 → ⊥
     homed_there none =
         let j = one.home in

@@ -1,4 +1,4 @@
--- An old bucket whose pairs have moved to their homes, and the law of two arrays then.
+-- An old bucket whose pairs have moved to their homes, and the law of two arrays after that.
 use Rattle.bucket_table.proofs.Words.{All, All-map, All-nil, AreHome, AreTwoArrays, BucketView, IsBucketOf, IsEntryHome, IsInRange}
 use Rattle.bucket_table.proofs.Words.{IsLength, IsPermutation, IsPermutation-append_left, IsPermutation-append_right, IsPermutation-refl}
 use Rattle.bucket_table.proofs.Words.{IsPermutation-trans, IsVacant, KeepsEntries, List, Meets, MovesInto, ℕ, [], ap, append-nil, arith}
@@ -62,7 +62,7 @@ module _ {K V : Type 0} where
     pub homes_kept : (c d : List (BucketView K V)) → KeepsEntries c d → AreHome hash c → AreHome hash d
     homes_kept c d kept homes i within = rw (kept.len, kept.entries i) (homes i (omega (arith, kept.len)))
 
-    -- room was made, and the law holds still
+    -- room was made, and the law still holds
     pub law_kept : (c d l : List (BucketView K V)) → KeepsEntries c d → AreTwoArrays hash c l → AreTwoArrays hash d l
     law_kept c d l kept law = record {
       current_home = homes_kept c d kept law.current_home;
@@ -90,13 +90,13 @@ module _ {K V : Type 0} where
       other_current = λ j out. refl;
     }
 
-    -- room was made, or was there: the pairs of s have room in d
+    -- room was made, or was there already: the pairs of s have room in d
     pub record IsPrepared (start end : ℕ) (s : BucketView K V) (c d : List (BucketView K V)) : Type 0 where
       pub kept : KeepsEntries c d
       pub others : KeepsOthers start end c d
       pub room : HasRoomFor hash d (pairs_in s)
 
-    -- old bucket `index`, and the current buckets from start up to below end, which are its targets
+    -- old bucket `index`, and the current buckets from start up to but not including end, which are its targets
     pub record AreTargets (c l : List (BucketView K V)) (index start end : ℕ) : Type 0 where
       pub law : AreTwoArrays hash c l
       pub within : index < length l
@@ -105,7 +105,7 @@ module _ {K V : Type 0} where
       pub range : (j : ℕ) → IsInRange start end j ↔ Meets (length l) index (length c) j
       pub ends : end ≤ length c
 
-    -- the pairs of bucket `index` have moved on into c2, after room was made in c1, and the bucket is killed
+    -- the pairs of bucket `index` have moved into c2, after room was made in c1, and the bucket is killed
     module _ {kind index start end : ℕ} {c0 c1 c2 l0 l2 : List (BucketView K V)} {left : BucketView K V}
         (targets : AreTargets c0 l0 index start end) (prepared : IsPrepared start end (bucket_at l0 index) c0 c1)
         (moved : MovesInto hash (bucket_at l0 index) c1 left c2) (homes : AreHome hash c2) (emptied : pairs_in left ≡ [])
@@ -193,7 +193,7 @@ module _ {K V : Type 0} where
             (subst (λ (n : ℕ). Meets n i (length c0) j) put.len (subst (λ (n : ℕ). Meets (length l2) i n j) current_len meets));
       }
 
-    -- in the words of the calls, of which from and to are the lengths
+    -- as the calls state it, in which from and to are the lengths
     pub targets_of : {c l : List (BucketView K V)} {from to index start end : ℕ} → AreTwoArrays hash c l → index < length l
         → from ≡ length l → to ≡ length c → IsLength from → IsLength to
         → ((j : ℕ) → IsInRange start end j ↔ Meets from index to j) → end ≤ to → AreTargets c l index start end
@@ -219,7 +219,7 @@ module _ {K V : Type 0} where
       set_same : set l index s ≡ l
       set_same = ap (λ (b : BucketView K V). set l index b) s_is ∙ set-get_or l index _
 
-      -- no room need be made
+      -- no room has to be made
       pub unreserved : s.killed ≡ false → length l ≤ length c → length (pairs_in s) ≤ 32 → IsPrepared start end s c c
       unreserved alive le few = record {
         kept = KeepsEntries-refl c;

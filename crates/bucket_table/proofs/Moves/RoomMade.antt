@@ -102,7 +102,7 @@ module _ {K V : Type 0} where
     listed = each_after put (λ i b. b.listed ≡ (bucket_at c i).listed) (kept.listed j) (λ i apart. kept.listed i);
   }
 
-  -- between two reservations: the first k buckets from `start` on have the room that was asked for
+  -- between two reservations: the first k buckets from `start` on have the room that was requested
   pub record IsReserving (start : ℕ) (counts : List ℕ) (c d : List (BucketView K V)) (k : ℕ) : Type 0 where
     pub room : (i : ℕ) → i < k → get_or counts i 0 ≤ free_len_in (bucket_at d (start + i))
     pub kept : KeepsEntries c d
@@ -115,7 +115,7 @@ module _ {K V : Type 0} where
     others = λ j out. refl;
   }
 
-  -- blocks more in the next bucket
+  -- more blocks in the next bucket
   module _ {start : ℕ} {counts : List ℕ} {c d e : List (BucketView K V)} {k : ℕ} (n : ℕ) (reserved : IsReserving start counts c d k)
       (within : k < length counts) (fits : start + length counts ≤ length d)
       (e_is : e ≡ set d (start + k) (with_free_blocks (bucket_at d (start + k)) n)) where
@@ -140,7 +140,7 @@ module _ {K V : Type 0} where
       others = reserving_blocks.others;
     }
 
-  -- the same in the words of the calls: b is the bucket that is lent, and after what it is then
+  -- the same as the calls state it: b is the bucket that is lent, and after what it is then
   module _ (start : ℕ) (counts : List ℕ) (c d : List (BucketView K V)) (k : ℕ) (b after : BucketView K V)
       (reserved : IsReserving start counts c d k)
       (within : k < length counts) (fits : start + length counts ≤ length c)
@@ -154,7 +154,7 @@ module _ {K V : Type 0} where
     pub reserving_next : get_or counts k 0 ≤ free_len_in b + 4 * n → IsReserving start counts c (set d (start + k) after) (k + 1)
     reserving_next enough = reserving_more n reserved within (omega (arith, reserved.kept.len)) put_is (rw b_is at enough)
 
-  -- the same range, its end written in another way
+  -- the same range with its end written differently
   pub others_in : (c d : List (BucketView K V)) (start end last : ℕ) → last ≡ end → KeepsOthers start last c d → KeepsOthers start end c d
   others_in c d start end last same others = subst (λ (e : ℕ). KeepsOthers start e c d) same others
 
@@ -173,7 +173,7 @@ module _ {K V : Type 0} where
         let rest = homed_none len start end j ps (All-tail (λ (q : K × V). IsInRange start end (home_of len (hash q.0))) p ps all) out in
         homed_elsewhere hash len j p ps (λ same. out (rw same at here)) ∙ rest
 
-    -- no more have their home in one bucket than there are
+    -- the number of pairs with their home in one bucket is at most the number of pairs
     pub homed_few : (len j : ℕ) (ps : List (K × V)) → homed_len hash len j ps ≤ length ps
     homed_few len j ps = count_by-le-length (λ (p : K × V). home_of len (hash p.0) == j) ps
 
@@ -189,7 +189,7 @@ module _ {K V : Type 0} where
       ]
     ]
 
-    -- counts that are no less than the pairs of each home, and as much room: room for all
+    -- if the counts are at least the number of pairs of each home, and there is that much room, there is room for all
     room_counted : (c d : List (BucketView K V)) (start end : ℕ) (counts : List ℕ)
         (ps : List (K × V)) → length d ≡ length c → start + length counts ≡ end
         → All (λ (p : K × V). IsInRange start end (home_of (length c) (hash p.0))) ps
@@ -203,7 +203,7 @@ module _ {K V : Type 0} where
         let within : k < length counts = omega (arith, inside.0, inside.1) in
         omega (arith, rw (back, ← long) at (counted k within), rw back at (room k within)))
 
-    -- the same of a result
+    -- the same for a result
     pub room_made : {A E : Type 0} (r : Result A E) (c d : List (BucketView K V)) (start end : ℕ)
         (counts : List ℕ) (ps : List (K × V)) → KeepsEntries c d → start + length counts ≡ end
         → All (λ (p : K × V). IsInRange start end (home_of (length c) (hash p.0))) ps

@@ -9,7 +9,7 @@ use Rattle.bucket_slots.specs.Spreading.{Spreads, SpreadsOne, SpreadsSome}
 use Rattle.bucket_table.specs.Layout.Landings.{landings_with}
 use Rattle.bucket_table.proofs.Moves.MovingPairs.{IsMoving, moving_again, moving_first}
 
--- a table of no slots says nothing
+-- a table of no slots records nothing
 said_nothing : (from : Place) (home : ℕ) (to : Place) → [] ≡ landings_with [] from home to
 said_nothing from home to = elim (cases_Bool ((from.block == 0) && (to.block == 0))) [
   | inl both ↦ rw both refl
@@ -40,7 +40,7 @@ module _ {K V : Type 0} (hash : K → ℕ) (kind start end : ℕ) (answers : Bor
         landed = said_nothing one.at one.index (place_for_next (bucket_at c one.index));
       }
 
-  -- they are moved as one by one, and the others can still move
+  -- they move as if one by one, and the others can still move
   moved_each : (count : ℕ) (s : BucketView K V) (c : List (BucketView K V))
       → Spreads kind answers (IsHome (length c0)) 0 count s0 c0 s c → IsMoving hash start end s0 c0 s c [] null_place
   moved_each zero s c (same, kept) = rw (same, kept) (moving_first hash ready (λ slot. refl))

@@ -29,7 +29,7 @@ module _ {K V : Type 0} where
   stay_both c d e first second = λ i at occupied.
       second i at (ap is_free (first i at occupied) ∙ occupied) ∙ first i at occupied
 
-  -- another slot stands in the place of a free one
+  -- a free slot is replaced by another one
   row_other : (row : List (Slot K V)) (pos at : ℕ) (x : Slot K V) → slot_at row pos ≡ free → is_free (slot_at row at) ≡ false
       → slot_at (set row pos x) at ≡ slot_at row at
   row_other row pos at x vacant occupied =
@@ -63,7 +63,7 @@ module _ {K V : Type 0} where
   slot_other s (suc i) pos zero p x vacant occupied = refl
   slot_other s (suc i) pos (suc k) p x vacant occupied = rows_other s.chain i pos k p x vacant occupied
 
-  -- a pair is placed where a slot is free
+  -- a pair is placed in a free slot
   pub place_kept : (s : BucketView K V) (pair : K × V) (byte : ℕ) (at : Place) → (first_place is_free s ≡ None → ⊥)
       → is_free (slot_in s at) ≡ false → slot_in (slots_with s pair byte) at ≡ slot_in s at
   place_kept s pair byte at room occupied =
@@ -83,13 +83,13 @@ module _ {K V : Type 0} where
     | inr past ↦ absurd (no_row s.chain k p occupied (λ within. omega (arith, within, past)))
   ]
 
-  -- or another list is there
+  -- or the list is replaced
   pub place_listed : (s : BucketView K V) (order : List ℕ) (block pos : ℕ)
       → slot_at (block_at (record s { listed = order }) block) pos ≡ slot_at (block_at s block) pos
   place_listed s order zero pos = refl
   place_listed s order (suc i) pos = refl
 
-  -- what some slots of a row have, as their pairs or their marks, one of them has
+  -- what some slots of a row have, as their pairs or their tombstones, one of them has
   module _ {B : Type 0} (part : Slot K V → Option B) where
     one_of : (x : Slot K V) (xs : List (Slot K V)) (p : B) (found : Option B) → part x ≡ found
         → Contains (cons_option found (filter_map part xs)) p
@@ -114,7 +114,7 @@ module _ {K V : Type 0} where
         subst (λ (found : Option B). Contains (cons_option found (filter_map part xs)) p) (sym here) (0, omega arith, refl)
     contains_at none (x ∷ xs) (suc i) p here = behind (filter_map part xs) p (part x) (contains_at none xs i p here)
 
-    -- and so of a chain's
+    -- and the same for a chain
     pub in_row : (rows : List (List (Slot K V))) (p : B) → Contains (filter_map part (flattened rows)) p
         → (i pos : ℕ) × (part (slot_at (row_at rows i) pos) ≡ Some p)
     in_row [] p has = absurd (omega (arith, has.1))
@@ -135,7 +135,7 @@ module _ {K V : Type 0} where
         rw (filter_map-append part row (flattened rows))
         (Contains-append_right (filter_map part row) (filter_map part (flattened rows)) p (from_row none rows i pos p here))
 
-  -- a pair of a bucket stands in an own slot or in the chain
+  -- a pair of a bucket is in an own slot or in the chain
   pub own_or_chain : (b : BucketView K V) (p : K × V) → Contains (pairs_in b) p → Contains (live_pairs b.own) p ⊎ StandsInChain b p
   own_or_chain b p has = Contains-append_cases (live_pairs b.own) (live_pairs (flattened b.chain)) p
       (subst (λ (ps : List (K × V)). Contains ps p) (filter_map-append live_pair b.own (flattened b.chain)) has)

@@ -4,7 +4,7 @@ use Rattle.bucket_table.proofs.Words.{slot_in, slots_vacated, sym, ℕ, ◌∙�
 use Rattle.bucket_slots.proofs.RoomAfter.{pairs_ahead-slots_vacated}
 use Rattle.bucket_slots.proofs.SlotFronts.{pairs_vacated}
 
--- where all pairs are ahead of the pointer: its step, and its slot vacated
+-- if all pairs are ahead of the pointer: its step, and its slot vacated
 pub walked : {K V : Type 0} (kind : ℕ) (s : BucketView K V) (old new : Place) (p : K × V) → IsBucketOf kind s
     → pairs_in s ≡ pairs_ahead s old → live_pair (slot_in s new) ≡ Some p → pairs_ahead s old ≡ p ∷ pairs_ahead s new
     → (pairs_in s ≡ p ∷ pairs_in (slots_vacated s new))

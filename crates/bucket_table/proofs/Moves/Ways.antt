@@ -1,4 +1,4 @@
--- Where the pair in a slot goes: by its key's hash, or by its byte where its bucket has one target alone.
+-- The destination of the pair in a slot: by its key's hash, or by its byte if its bucket has only one target.
 use Rattle.bucket_table.proofs.Words.{All, All-head, All-permutation, BucketView, IsHome, IsInRange, IsLength, Place, Slot, Some, ℕ, ap}
 use Rattle.bucket_table.proofs.Words.{arith, entries_in, home_of, live_pair, pair_of, pairs_in, pairs_in-slots_vacated, slot_in}
 use Rattle.bucket_table.proofs.Words.{slots_vacated, sym, ◌%◌, ◌+◌, ◌∙◌, ◌≡◌, ◌≤◌}

@@ -9,7 +9,7 @@ use Rattle.std.proofs.Common.{get_or-set_same}
 use Rattle.std.proofs.lemmas.List.Elements.{Contains-get_or, Contains-push_cases}
 use Rattle.std.specs.Prelude.{Ok}
 
--- some unit is left to hand out or handed out
+-- some unit is open or left to issue
 abbrev pub IsGoingOn : TicketState → Type 0
 IsGoingOn state = (64 * state.position < state.len) ⊎ ((unit : ℕ) × Contains state.open_units unit)
 
@@ -61,7 +61,7 @@ covered_work killed i state below covered = record {
       (cases_eq k i))) (λ (there : Contains state.open_units unit). inr there) (covered.done_or_open unit less);
 }
 
--- where the position is after the ticket of a unit ended
+-- the position after the ticket of a unit ended
 abbrev pub position_after : Bool → ℕ → ℕ → ℕ
 position_after success position unit = if success then position else min position unit
 
@@ -119,7 +119,7 @@ going_on_end killed before after ticket false Done (unit, is, done, h, goes) cov
     let position = h.position_is in
     inl (omega arith)
 
--- where no unit is left, each old bucket is killed
+-- if no unit is left, each old bucket is killed
 pub all_killed : (killed : List Bool) (state : TicketState) → IsCovered killed state → IsOver state → AreAllKilled killed
 all_killed killed state covered (none_open, handed) = λ i inside.
     let same = covered.same_len in

@@ -15,7 +15,7 @@ use Rattle.bucket_table.proofs.Rehash.Covering.{all_killed, covered_end, covered
 use Rattle.bucket_table.proofs.Views.Killed.{no_pairs}
 use Rattle.bucket_table.proofs.Views.Laws.{loses_none}
 
--- a ticket ends as its unit's buckets are killed
+-- the end of a ticket, whose unit is done if its buckets are killed
 abbrev pub EndsBy : {K V : Type 0} → ArraysView K V → ℕ → Bool → Result Bool TicketError → TicketState → Type 0
 EndsBy arrays ticket success answer after =
     Ends arrays.tickets ticket success (IsUnitKilled (killed_flags arrays.linked) (ticket / 2048)) answer after
@@ -23,7 +23,7 @@ EndsBy arrays ticket success answer after =
 unit_of : (ticket unit : ℕ) → ticket ≡ 2048 * unit → ticket / 2048 ≡ unit
 unit_of ticket unit is = omega arith
 
--- the test of a unit may stand in place of what it tells
+-- the fact that a unit is done may be replaced by an equivalent one
 pub ends_as : (before after : TicketState) (ticket : ℕ) (success : Bool) (P Q : Type 0) (answer : Result Bool TicketError) → (P ↔ Q)
     → Ends before ticket success P answer after → Ends before ticket success Q answer after
 ends_as before after ticket success P Q (Ok gone) means (unit, is, done, closes, goes) = (unit, is, λ e. means.0 (done e), closes, goes)
@@ -35,14 +35,14 @@ same_at_err : (before after : TicketState) (ticket : ℕ) (success : Bool) (Done
 same_at_err before after ticket success Done NotOpen h = h.1
 same_at_err before after ticket success Done NotDone h = h.3
 
--- what isn't open doesn't end
+-- what isn't open can't be ended
 none_closed : (before : TicketState) (unit : ℕ) (after : List ℕ) → before.open_units ≡ [] → IsPermutation before.open_units (unit ∷ after)
     → ⊥
 none_closed before unit after none moved =
     absurd (omega (arith, length_permutation _ _ moved, ap (λ (us : List ℕ). length us) none))
 
 module _ {K V : Type 0} where
-  -- a unit handed out keeps every unit covered
+  -- issuing a unit keeps every unit covered
   pub started : (buckets : List (BucketView K V)) (before after : TicketState) (answer : Option ℕ) → Starts before answer after
       → LosesNoUnit buckets before → LosesNoUnit buckets after
   started buckets before after None starts kept = rw starts.1 kept
@@ -70,7 +70,7 @@ module _ {K V : Type 0} where
   unlisted_all (bucket ∷ buckets) killed emptied (suc i) =
       unlisted_all buckets (λ k below. killed (suc k) (omega arith)) (λ k d below. emptied (suc k) d (omega arith)) i
 
-  -- the old array goes
+  -- the old array is dropped
   pub ended_gone : (now : ArraysView K V) (minimum maximum ticket : ℕ) (current linked : List (BucketView K V))
       (tickets last none : TicketState) (success gone tested : Bool)
       → gone ≡ true → (IsTrue tested ↔ IsUnitKilled (killed_flags linked) (ticket / 2048)) → Ends tickets ticket success (IsTrue tested)
@@ -134,7 +134,7 @@ module _ {K V : Type 0} (old new : ArraysView K V) (ticket : ℕ) (success : Boo
   ended_entries (Ok false) kept ends = rw ends.1 refl
   ended_entries (Err error) kept ends = rw ends.1 refl
 
-  -- of the order: no bucket moves on, and what goes lists nothing
+  -- for the order: no bucket moves, and what is dropped lists nothing
   still_order : new ≡ record old { tickets = new.tickets } → CarriesOrder old new
   still_order same = rw same
       (carries_unmoved old (record old { tickets = new.tickets }) (λ i. (refl, refl, refl)) (stay_same old.current) (λ j. refl))
@@ -148,7 +148,7 @@ module _ {K V : Type 0} (old new : ArraysView K V) (ticket : ℕ) (success : Boo
   ended_order (Ok false) kept ends = still_order ends.1
   ended_order (Err error) kept ends = still_order ends.1
 
-  -- of the marks
+  -- for the tombstones
   pub marks_ended : (answer : Result Bool TicketError) → EndsRehash old ticket success answer new
       → HasNoNewMark (marks_of old) (marks_of new)
   marks_ended (Ok true) ends =
@@ -158,7 +158,7 @@ module _ {K V : Type 0} (old new : ArraysView K V) (ticket : ℕ) (success : Boo
   marks_ended (Ok false) ends = rw ends.1 (no_new-refl (marks_of old))
   marks_ended (Err error) ends = rw ends.1 (no_new-refl (marks_of old))
 
-  -- and of the current array
+  -- and for the current array
   pub others_ended : (answer : Result Bool TicketError) → EndsRehash old ticket success answer new
       → (new.minimum ≡ old.minimum) × (new.maximum ≡ old.maximum) × (new.current ≡ old.current)
   others_ended (Ok true) ends = rw ends.2 (refl, refl, refl)

@@ -1,4 +1,4 @@
--- A unit of a rehash that no one else works at.
+-- A unit of a rehash that nobody else works.
 use Rattle.bucket_table.proofs.Words.{ArraysView, Bool, EndsRehash, Err, HandsOut, IsInRange, List, LosesNoUnit, None, Ok, Result, Some}
 use Rattle.bucket_table.proofs.Words.{Starts, TicketState, WantsMemory, WorksUnit, ℕ, [], ap, arith, cases_lt, false, inl, inr}
 use Rattle.bucket_table.proofs.Words.{killed_flags, length, length_permutation, nil_from_length, refl, sym, true, true≢false, ◌*◌, ◌+◌, ◌/◌}
@@ -16,7 +16,7 @@ module _ {K V : Type 0} (old worked last : ArraysView K V) (started : TicketStat
     (covered : IsCovered (killed_flags old.linked) old.tickets)
     (wants : success ≡ false
     → WantsMemory (IsInRange (64 * (ticket / 2048)) (64 * (ticket / 2048) + 64)) (record old { tickets = started }) worked) where
-  -- what a unit's end leaves
+  -- what the end of a unit leaves
   finished : (answer : Result Bool TicketError) → old.tickets.open_units ≡ [] → EndsRehash worked ticket success answer last
       → (last.tickets.open_units ≡ []) × (success ≡ true → units_left last + 1 ≡ units_left old)
       × (success ≡ false → (last.tickets.position ≡ old.tickets.position) × WantsMemory (λ i. Unit {0}) old last)
@@ -58,7 +58,7 @@ module _ {K V : Type 0} (old worked last : ArraysView K V) (started : TicketStat
       let done = finished answer none ends in
       record { none_open = done.0; none = tt; one = (omega (arith, h.is_left, long), done.1, done.2) }
 
--- an old array of which no ticket is open has a unit left
+-- an old array without an open ticket has a unit left
 pub finishes_none : {K V : Type 0} (old new : ArraysView K V) → Starts old.tickets None new.tickets
     → new ≡ record old { tickets = new.tickets } → LosesNoUnit old.linked old.tickets → old.tickets.open_units ≡ [] → Finishes old None new
 finishes_none {K} {V} old new starts is loses none =

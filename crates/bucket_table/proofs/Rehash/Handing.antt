@@ -62,7 +62,7 @@ pub not_open : (seen state : TicketState) (items : List ℕ) (ticket : ℕ) → 
 not_open seen state items ticket known same absent (unit, is, there) = absent unit is
     (subst (λ (xs : List ℕ). Contains xs unit) (ap (λ (s : TicketState). s.open_units) (sym known) ∙ sym same) there)
 
--- what an end without success owes of its answer
+-- what an end without success must show of its result
 pub never_over : (success : Bool) (P : Type 0) → success ≡ false → IsTrue false ↔ ((success ≡ true) × P)
 never_over success P is = (
   λ h. absurd (false≢true h),

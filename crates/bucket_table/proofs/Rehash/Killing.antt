@@ -1,4 +1,4 @@
--- Which old buckets are killed, and no others.
+-- The old buckets that are killed, and that no others are.
 use Rattle.bucket_table.proofs.Words.{ArraysView, BucketView, HasWorkedUnits, IsInRange, KillsOnly, List, RelocatesAt, ℕ, arith, cases_eq}
 use Rattle.bucket_table.proofs.Words.{empty_bucket, get_or-set_other, inl, inr, length, length-set, subst, sym, ◌*◌, ◌+◌, ◌≡◌, ◌≤◌}
 use Rattle.bucket_table.specs.Rehash.Units.{IsDue}
@@ -7,7 +7,7 @@ module _ {K V : Type 0} where
   pub only_same : (IsOne : ℕ → Type 0) (old mid new : List (BucketView K V)) → KillsOnly IsOne old mid → new ≡ mid → KillsOnly IsOne old new
   only_same IsOne old mid new only same i alive = rw same (only i alive)
 
-  -- one bucket more is relocated
+  -- one more bucket is relocated
   pub only_more : (IsOne : ℕ → Type 0) (index : ℕ) (old : List (BucketView K V)) (mid new : ArraysView K V) → KillsOnly IsOne old mid.linked
       → RelocatesAt index mid new → IsOne index → KillsOnly IsOne old new.linked
   only_more IsOne index old mid new only moved one i alive = elim (only i alive) [
@@ -29,7 +29,7 @@ module _ {K V : Type 0} where
     | inr still ↦ inr still
   ]
 
-  -- what is due in some steps is due in more
+  -- what is due in some steps is due in more steps
   pub due_wider : (A B : ℕ → Type 0) (few more : ℕ) (arrays : ArraysView K V) (i : ℕ) → few ≤ more → ((j : ℕ) → A j → B j)
       → IsDue few A arrays i → IsDue more B arrays i
   due_wider A B few more arrays i less wider due = elim due [

@@ -1,4 +1,4 @@
--- A bucket's move, as the arrays see it.
+-- The move of a bucket, as the arrays see it.
 use Rattle.bucket_table.proofs.Words.{All, All-cons, All-nil, AreArrays, ArePlaced, AreTwoArrays, ArraysView, Bool, BucketView}
 use Rattle.bucket_table.proofs.Words.{CarriesRecency, Err, HasNoNewMark, IsPermutation, IsPermutation-refl, IsUnmoved, KeepsArrays}
 use Rattle.bucket_table.proofs.Words.{KeepsEntries, List, LosesNoUnit, Ok, OnErr, OnOk, RelocatesAt, Result, TicketState, ℕ, [], ap, arith}
@@ -68,7 +68,7 @@ module _ {K V : Type 0} (minimum maximum index : ℕ) (c l d m : List (BucketVie
   lens (Ok x) moved kept same = (moved.current_len, moved.linked_len)
   lens (Err e) moved kept same = (kept.len, rw same refl)
 
-  -- the arrays after a move, done or refused
+  -- the arrays after a move, whether it was done or failed
   pub arrays_after : {A E : Type 0} (r : Result A E) → OnOk r (IsRelocated index c l d m) → OnErr r (KeepsEntries c d) → OnErr r (m ≡ l)
       → AreArrays before → AreArrays after
   arrays_after r moved kept same was =
@@ -98,7 +98,7 @@ module _ {K V : Type 0} (minimum maximum index : ℕ) (c l d m : List (BucketVie
     order = order;
   }
 
-  -- the move, where it is done
+  -- the move, if it is done
   pub done_at : {A E : Type 0} (r : Result A E) → index < length l → OnOk r (IsRelocated index c l d m)
       → OnOk r (CarriesRecency (bucket_at l index) c d) → OnOk r (RelocatesAt index before after)
   done_at (Ok x) within moved recency = record {
@@ -115,7 +115,7 @@ module _ {K V : Type 0} (minimum maximum index : ℕ) (c l d m : List (BucketVie
   }
   done_at (Err e) within moved recency = tt
 
-  -- and where it is refused
+  -- and if it fails
   pub refused_at : {A E : Type 0} (r : Result A E) → OnErr r (KeepsEntries c d) → OnErr r (m ≡ l) → OnErr r (IsUnmoved before after)
   refused_at (Ok x) kept same = tt
   refused_at (Err e) kept same = record {

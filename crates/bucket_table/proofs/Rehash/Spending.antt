@@ -1,10 +1,10 @@
--- Old buckets whose pairs move on.
+-- Old buckets whose pairs move.
 use Rattle.bucket_table.proofs.Words.{ArraysView, BucketView, IsUnmoved, List, RelocatesAt, SpendsSome, ℕ, [], ap, arith, bucket_at}
 use Rattle.bucket_table.proofs.Words.{cases_eq, empty_bucket, get_or-set_other, get_or-set_same, inl, inr, length, marks_in, pairs_in, refl}
 use Rattle.bucket_table.proofs.Words.{subst, sym, true, ◌<◌, ◌∙◌, ◌≡◌, ◌≤◌}
 
 module _ {K V : Type 0} where
-  -- a bucket whose pairs have moved on
+  -- a bucket whose pairs have moved
   abbrev IsSpent : BucketView K V → BucketView K V → Type 0
   IsSpent was bucket = (bucket.killed ≡ true) × (pairs_in bucket ≡ []) × (marks_in bucket ≡ marks_in was)
 
@@ -17,7 +17,7 @@ module _ {K V : Type 0} where
     | inr spent ↦ spent.2
   ]
 
-  -- what has moved on stays so
+  -- what has moved stays so
   pub spends_both : (first second third : List (BucketView K V)) → SpendsSome first second
       → SpendsSome second third → SpendsSome first third
   spends_both first second third before after i = elim (after i) [

@@ -12,7 +12,7 @@ use Rattle.bucket_table.proofs.Map.MapKept.{others_than_pairs}
 use Rattle.bucket_table.proofs.Rehash.MovesInArrays.{flags_set}
 
 module _ {K V : Type 0} where
-  -- another bucket, on either side
+  -- a bucket is replaced, on either side
   pub bag_with : (a : ArraysView K V) (side : Side) (i : ℕ) (b : BucketView K V)
       → KeepsOpenTickets a.tickets (arrays_with a side i b).tickets
   bag_with a Old i b = λ unit. refl
@@ -26,7 +26,7 @@ module _ {K V : Type 0} where
       let flags = length-killed_flags old.linked in
       (omega (arith, within, flags), rw (moved.tickets_are, moved.linked_is, flags_set old.linked index moved.bucket moved.is_killed) refl)
 
-  -- an old bucket is refused that isn't killed
+  -- the move of an old bucket fails, and the bucket isn't killed
   pub refuses_as : (index : ℕ) (old new : ArraysView K V) → index < length old.linked → IsUnmoved old new
       → (bucket_at old.linked index).killed ≡ false
       → (index < length (killed_flags old.linked)) × (get_or (killed_flags old.linked) index false ≡ false) ×

@@ -8,7 +8,7 @@ use Rattle.bucket_table.proofs.Rehash.Spending.{spends_both, spends_few, spends_
 use Rattle.bucket_table.proofs.Views.Keeping.{kept_none, stay_killed_same}
 
 module _ {K V : Type 0} where
-  -- no step: old buckets may move on, and no ticket changes
+  -- no step: old buckets may move, and no ticket changes
   no_units : (old new : ArraysView K V) → RelocatesSome old new → SpendsSome old.linked new.linked → HasWorkedUnits 0 old new
   no_units old new some spends =
       let at : new.tickets.position ≡ old.tickets.position = ap (λ (t : TicketState). t.position) some.tickets_are in
@@ -145,7 +145,7 @@ module _ {K V : Type 0} where
         run.spent dead;
   }
 
-  -- and where no old array stood, none comes
+  -- and if there was no old array, there is none after
   pub units_alone : {A : ℕ → Type 0} (steps : ℕ) (old new : ArraysView K V) → WorksUnits steps A old new → length old.linked ≡ 0
       → length new.linked ≡ 0
   units_alone steps old new w alone = elim (cases_lt 0 (length new.linked)) [

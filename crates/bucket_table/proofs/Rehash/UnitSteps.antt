@@ -6,7 +6,7 @@ use Rattle.bucket_table.specs.Rehash.Units.{AreKilled, WorksRange}
 use Rattle.bucket_table.proofs.Views.Keeping.{kept_both, kept_none}
 use Rattle.bucket_table.proofs.Views.Killed.{get_or-killed_flags, length-killed_flags}
 
--- the old buckets from `start` up to below `end` were relocated, and none past them
+-- the old buckets from `start` up to but not including `end` were relocated, and none past them
 pub record RelocatesRange {K V : Type 0} (start end : ℕ) (old new : ArraysView K V) : Type 0 where
   pub some : RelocatesSome old new
   pub killed : AreKilled start end new.linked
@@ -29,7 +29,7 @@ module _ {K V : Type 0} where
     | inr other ↦ rw (get_or-set_other buckets index i bucket empty_bucket other) (apart other)
   ]
 
-  -- one bucket more
+  -- one more bucket
   pub range_more : (start index : ℕ) (old between new : ArraysView K V) → RelocatesRange start index old between
       → RelocatesAt index between new
       → index < length between.linked → RelocatesRange start (index + 1) old new
@@ -53,7 +53,7 @@ module _ {K V : Type 0} where
             other ∙ done.rest i (omega arith);
       }
 
-  -- a refusal ends the range
+  -- a failure ends the range
   pub some_refused : (start index end : ℕ) (old between new : ArraysView K V) → RelocatesRange start index old between
       → IsUnmoved between new
       → WorksRange start end false old new

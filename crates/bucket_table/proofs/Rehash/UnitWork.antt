@@ -1,4 +1,4 @@
--- A unit whose ticket is handed out, worked and ended.
+-- A unit whose ticket is issued, worked and ended.
 use Rattle.bucket_table.proofs.Words.{ArraysView, Bool, Closes, Contains-permutation, Ends, EndsRehash, Err, HandsOut, HasWorkedUnits}
 use Rattle.bucket_table.proofs.Words.{IsInRange, IsOver, IsPermutation, IsPermutation-refl, IsTrue, KeepsArrays, KeepsOpenTickets}
 use Rattle.bucket_table.proofs.Words.{KillsOnly, List, LosesNoUnit, None, Ok, Option, Result, Some, SpendsSome, Starts, TicketState}
@@ -17,7 +17,7 @@ use Rattle.bucket_table.proofs.Moves.CarriedOrder.{order_at_other_tickets, order
 use Rattle.bucket_table.proofs.Rehash.Ending.{EndsBy, ended_entries, ended_order, marks_ended, others_ended}
 use Rattle.bucket_table.proofs.Views.Killed.{get_or-killed_flags, length-killed_flags}
 
--- one unit joins a bag and one leaves it
+-- one unit is added to a bag and one is removed
 bag_back : (unit other : ℕ) (was started is : List ℕ) → IsPermutation (other ∷ was) started → IsPermutation started (other ∷ is)
     → count_by (λ (u : ℕ). u == unit) is ≡ count_by (λ (u : ℕ). u == unit) was
 bag_back unit other was started is joined left =
@@ -29,7 +29,7 @@ bag_back unit other was started is joined left =
     e
 
 module _ (before started : TicketState) (ticket : ℕ) (h : HandsOut before ticket started) where
-  -- the unit that ends is the one that was handed out
+  -- the unit that ends is the one that was issued
   pub closed : (success : Bool) (Done : Type 0) (gone : Bool) (after : TicketState) → Ends started ticket success Done (Ok gone) after
       → Closes started before.position success after × (IsTrue gone ↔ ((success ≡ true) × IsOver after))
   closed success Done gone after (unit, ticket_is, done, closes, goes) =
@@ -70,7 +70,7 @@ module _ {K V : Type 0} (old worked last : ArraysView K V) (started : TicketStat
       (ends_now (Ok false) last.tickets ends.0) in
       bag_closed old.tickets started ticket h success last.tickets closes
 
-  -- the pairs and what isn't the arrays' contents stay through a unit
+  -- the pairs and everything but the contents of the arrays stay through a unit
   pub unit_kept : (answer : Result Bool TicketError) → LosesNoUnit worked.linked worked.tickets
       → EndsRehash worked ticket success answer last → KeepsArrays old last
   unit_kept answer loses ends =
@@ -90,7 +90,7 @@ module _ {K V : Type 0} (old worked last : ArraysView K V) (started : TicketStat
             (order_at_other_tickets started old worked kept.order) (ended_order worked last ticket success answer loses ends);
       }
 
-  -- a unit that is easy is worked, and the next ticket is that of the next unit; one that isn't is handed out again
+  -- an easy unit is worked, and the next ticket is that of the next unit; any other is issued again
   module _ (long : old.tickets.len ≡ length old.linked) (spends : SpendsSome old.linked worked.linked) (easy : UnitsNeedNoMemory 1 old
       → success ≡ true)
       (closes : Closes started old.tickets.position success last.tickets) (last_is : last ≡ record worked { tickets = last.tickets }) where
@@ -157,7 +157,7 @@ module _ {K V : Type 0} (old worked last : ArraysView K V) (started : TicketStat
       (ends_now (Ok false) last.tickets ends.0) in
       units_done long spends easy closes ends.1
 
-  -- what isn't killed isn't as the ticket ends, and then the array doesn't go
+  -- a bucket that isn't killed still isn't when the ticket ends, and then the array isn't dropped
   alive_ended : (answer : Result Bool TicketError) (i : ℕ) → EndsRehash worked ticket success answer last
       → IsAlive worked.linked i → IsAlive last.linked i
   alive_ended (Err error) i ends alive = rw ends.1 alive
@@ -197,7 +197,7 @@ module _ {K V : Type 0} where
       → new ≡ old
   none_changed old new starts is = is ∙ ap (λ (t : TicketState). record old { tickets = t }) starts.1
 
-  -- without an old array none is handed out
+  -- without an old array none is issued
   pub none_handed : (old : ArraysView K V) (ticket : ℕ) (after : TicketState) → old.tickets.len ≡ length old.linked → length old.linked ≡ 0
       → HandsOut old.tickets ticket after → ⊥
   none_handed old ticket after long none h = let left = h.is_left in absurd (omega (arith, left, long, none))

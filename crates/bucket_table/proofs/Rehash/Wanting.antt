@@ -1,4 +1,4 @@
--- Old buckets that didn't move, since memory was wanted.
+-- Old buckets that didn't move, because memory was needed.
 use Rattle.bucket_table.proofs.Words.{ArraysView, Bool, IsInRange, IsSource, IsUnmoved, Meets, RelocatesSome, SpendsSome, TicketState}
 use Rattle.bucket_table.proofs.Words.{WantsMemory, WorksUnits, ℕ, [], arith, bucket_at, cases_lt, false, inl, inr, killed_flags, length}
 use Rattle.bucket_table.proofs.Words.{refl, sym, true, ◌*◌, ◌+◌, ◌/◌, ◌<◌, ◌↔◌, ◌∙◌, ◌≡◌, ◌≤◌}
@@ -9,7 +9,7 @@ use Rattle.bucket_table.proofs.Rehash.Spending.{spends_few}
 use Rattle.bucket_table.proofs.Views.Killed.{get_or-killed_flags, length-killed_flags}
 
 module _ {K V : Type 0} where
-  -- what needs no memory needs none once others have moved on
+  -- what needs no memory needs none after others have moved
   spared : (i : ℕ) (old mid : ArraysView K V) → length mid.current ≡ length old.current → length mid.linked ≡ length old.linked
       → SpendsSome old.linked mid.linked → NeedsNoMemory i (i + 1) old → NeedsNoMemory i (i + 1) mid
   spared i old mid current linked spent needs =
@@ -18,7 +18,7 @@ module _ {K V : Type 0} where
         few = λ j low high. spends_few old.linked mid.linked j 32 spent (needs.few j low high);
       }
 
-  -- memory that is wanted after some steps was needed before them
+  -- memory that is needed after some steps was needed before them
   pub wanted_before : {A : ℕ → Type 0} (IsOne : ℕ → Type 0) (steps : ℕ) (old mid new : ArraysView K V)
       → length mid.current ≡ length old.current → WorksUnits steps A old mid
       → (0 < length new.linked → length new.linked ≡ length mid.linked) → WantsMemory IsOne mid new → WantsMemory IsOne old new
@@ -34,7 +34,7 @@ module _ {K V : Type 0} where
         needed = λ needs. wants.needed (spared wants.index old mid current run.len run.spent needs);
       }
 
-  -- a range stops at a bucket that is refused
+  -- a range stops at a bucket that can't move
   pub range_wants : (start index end : ℕ) (old mid new : ArraysView K V) → RelocatesRange start index old mid
       → SpendsSome old.linked mid.linked → IsUnmoved mid new → start ≤ index → index < end → end ≤ length old.linked
       → (bucket_at mid.linked index).killed ≡ false → (NeedsNoMemory index (index + 1) mid → ⊥) → WantsMemory (IsInRange start end) old new
@@ -48,7 +48,7 @@ module _ {K V : Type 0} where
         needed = λ needs. needed (spared index old mid done.some.kept.current_len done.some.killed.len spent needs);
       }
 
-  -- where no bucket of those needed memory at entry, none is wanted
+  -- if none of the buckets needed memory at entry, none can fail
   pub none_wanted : (IsOne : ℕ → Type 0) (start end : ℕ) (old new : ArraysView K V)
       → ((i : ℕ) → IsOne i → i < length new.linked → IsInRange start end i) → NeedsNoMemory start end old → WantsMemory IsOne old new → ⊥
   none_wanted IsOne start end old new inside needs wants =
@@ -58,7 +58,7 @@ module _ {K V : Type 0} where
         few = λ i low high. needs.few i (omega (arith, low, one.0)) (omega (arith, high, one.1));
       })
 
-  -- a range that needs no memory isn't refused
+  -- a range that needs no memory doesn't fail
   pub range_spared : (start end : ℕ) (success : Bool) (old new : ArraysView K V)
       → (success ≡ false → WantsMemory (IsInRange start end) old new) → NeedsNoMemory start end old → success ≡ true
   range_spared start end true old new wants needs = refl
@@ -96,7 +96,7 @@ module _ {K V : Type 0} where
         needed = wants.needed;
       }
 
-  -- where no ticket is open each unit below the position is killed
+  -- if no ticket is open, each unit below the position is killed
   passed : (old : ArraysView K V) → IsCovered (killed_flags old.linked) old.tickets → old.tickets.open_units ≡ [] → (i : ℕ)
       → i < 64 * old.tickets.position → i < length old.linked → (bucket_at old.linked i).killed ≡ true
   passed old covered none i below within =
@@ -106,7 +106,7 @@ module _ {K V : Type 0} where
         | inr there ↦ let less = (rw none at there).1 in absurd (omega (arith, less))
       ]
 
-  -- so of all old buckets the first that isn't killed is one of the unit that is worked
+  -- so the first old bucket that isn't killed is in the unit that is worked
   pub unit_wants : (old worked last : ArraysView K V) (started : TicketState) (unit : ℕ) → unit ≡ old.tickets.position
       → old.tickets.open_units ≡ [] → IsCovered (killed_flags old.linked) old.tickets
       → RelocatesSome (record old { tickets = started }) worked → last.linked ≡ worked.linked

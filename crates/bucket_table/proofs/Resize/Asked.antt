@@ -1,4 +1,4 @@
--- When a resize is looked into, by what the code reads.
+-- When a resize is tried, by what the code reads.
 use Rattle.bucket_table.proofs.Words.{ArraysView, AsksShrinking, Bool, BucketView, IsTrue, List, ℕ, arith, cases_lt, false, false≢true}
 use Rattle.bucket_table.proofs.Words.{length, live_counts, slots_of, subst, sym, ⊎_elim, ◌<◌, ◌↔◌, ◌∙◌, ◌≡◌, ◌≤◌}
 use Rattle.bucket_table.specs.Resize.Asking.{AsksGrowth}

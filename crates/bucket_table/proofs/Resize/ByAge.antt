@@ -1,4 +1,4 @@
--- The pairs of a bucket by age, and of a row of buckets: of the own slots each is taken once.
+-- The pairs of a bucket by age, and of a row of buckets: each own slot is taken once.
 use Rattle.bucket_table.proofs.Words.{ArraysView, BucketView, IsPermutation, IsPermutation-append_comm, IsPermutation-refl}
 use Rattle.bucket_table.proofs.Words.{IsPermutation-trans, List, Slot, ℕ, [], ap, append_assoc, arith, bucket_at, cases_eq, drop}
 use Rattle.bucket_table.proofs.Words.{empty_bucket, eq-eqb, false, false≢true, filter_map-append, flattened, get_or, inl, inr, is_listed}
@@ -47,7 +47,7 @@ not_earlier (first ∷ slots) (suc i) d once within =
     rw (ne_eqb slot first (listed_apart slots slot first there once.0)) (not_earlier slots i d once.1 later)
 
 module _ {K V : Type 0} where
-  -- slots that stay give the same
+  -- slots that stay the same give the same pairs
   slots_stay : (old new : List (Slot K V)) (slot : ℕ) (slots : List ℕ)
       → ((other : ℕ) → other ≢ slot → slot_at new other ≡ slot_at old other) → is_listed slots slot ≡ false
       → map (slot_at new) slots ≡ map (slot_at old) slots
@@ -57,7 +57,7 @@ module _ {K V : Type 0} where
       let rest = slots_stay old new slot slots others later in
       λ i. others first (λ same. false≢true (sym isnt ∙ eq-eqb slot first (sym same))) i ∷ rest i
 
-  -- of some slots the last one's pair comes first, and taking it leaves the others
+  -- the pair of the last of some slots comes first, and taking it leaves the others
   takes_at : (old new : BucketView K V) (slots : List ℕ) (i d : ℕ) → IsOnce slots → i < length slots
       → ((other : ℕ) → other ≢ get_or slots i d → slot_at new.own other ≡ slot_at old.own other)
       → own_backwards old (take (i + 1) slots) ≡ own_left old (get_or slots i d ∷ []) ++ own_backwards new (take i slots)
@@ -78,19 +78,19 @@ module _ {K V : Type 0} where
       let once : IsOnce slots = rw is (once_each (listed ++ range_with_len 0 32)) in
       ap (λ (n : ℕ). own_backwards old (take n slots)) last ∙ takes_at old new slots (left - 1) d once (omega arith) others
 
-  -- all slots by use are those that are left at first
+  -- at first all slots are left, in order of use
   pub all_at_first : (bucket : BucketView K V) (slots : List ℕ) → length bucket.own ≡ 32 → slots ≡ slots_by_use 32 bucket.listed
       → length slots ≤ 32 → own_by_age bucket ≡ own_backwards bucket (take 32 slots)
   all_at_first bucket slots long is few =
       ap (λ (n : ℕ). own_backwards bucket (slots_by_use n bucket.listed)) long ∙ ap (own_backwards bucket) (sym is)
       ∙ ap (own_backwards bucket) (sym (take_all 32 slots few))
 
-  -- the own slots' pairs by age depend on them and their order alone
+  -- the own slots' pairs by age depend only on the slots and their order
   pub own_same : (old new : BucketView K V) → new.own ≡ old.own → new.listed ≡ old.listed → own_by_age new ≡ own_by_age old
   own_same old new own listed =
       λ i. live_pairs (reverse (map (slot_at (own i)) (slots_by_use (length (own i)) (listed i))))
 
-  -- the pairs of the buckets from one on are its own and those of the buckets behind it, whatever the bucket is then
+  -- the pairs of the buckets from one on are its own and those of the buckets after it, whatever the bucket is then
   pub next_bucket : (arrays : ArraysView K V) (index : ℕ) (left : BucketView K V) → index < length (row_of arrays)
       → all_by_age (drop index (row_of arrays))
       ≡ pairs_by_age (bucket_at (row_of arrays) index) ++ all_by_age (drop (index + 1) (row_of (row_with arrays index left)))
@@ -109,7 +109,7 @@ module _ {K V : Type 0} where
   pub age_in_row : (arrays : ArraysView K V) → all_by_age (row_of arrays) ≡ arrays_by_age arrays
   age_in_row arrays = age_joined arrays.current arrays.linked
 
-  -- by age all pairs are there, each once
+  -- all pairs occur by age, each once
 
   own_once : (bucket : BucketView K V) → IsPermutation (live_pairs bucket.own) (own_by_age bucket)
   own_once bucket =

@@ -1,4 +1,4 @@
--- The pairs of a bucket's chain, behind its own slots: a walk that takes them out leaves these.
+-- The pairs of a bucket's chain, after its own slots: a walk that takes them out leaves the own slots.
 use Rattle.bucket_table.proofs.Words.{Bool, BucketView, List, MovesToNext, None, Option, Place, Slot, Some, ℕ, ap, arith, block_at, cond}
 use Rattle.bucket_table.proofs.Words.{drop, drop_all, false, false≢true, flattened, free, is_live, length, live_pair, live_pairs, nat_lt}
 use Rattle.bucket_table.proofs.Words.{pairs_ahead, refl, row_at, rows_with, slot_in, slots_without, suc, sym, true, zero, ◌++◌, ◌+◌, ◌<◌}
@@ -17,7 +17,7 @@ found_place : (found : Option Place) (next : Place) → is_some found ≡ true �
 found_place None next some is = absurd (false≢true some)
 found_place (Some place) next some is = ap (λ (p : Place). Some p) (sym is)
 
--- where a pointer stands whose block goes, with others behind it or not, or stays
+-- where a pointer is after its block is dropped, with other blocks after it or not, or stays
 place_behind : (goes more : Bool) (i pos : ℕ) (place : Place)
     → place
     ≡ cond goes (cond more (record { block = i + 1; pos = 32 }) (record { block = i; pos = 31 })) (record { block = i + 1; pos = pos })
@@ -27,13 +27,13 @@ place_behind true false i pos place is none = ap (λ (p : Place). p.pos) is
 place_behind false more i pos place is none = let number = ap (λ (p : Place). p.block) is in absurd (omega (arith, number, none))
 
 module _ {K V : Type 0} where
-  -- behind the own slots the chain's pairs are ahead
+  -- after the own slots, the chain's pairs are ahead
   pub chain_ahead : (bucket : BucketView K V) (at : Place) → length bucket.own ≡ 32 → at ≡ record { block = 0; pos = 31 }
       → chain_pairs bucket ≡ pairs_ahead bucket at
   chain_ahead bucket at long is =
       rw is (ap (λ ahead. live_pairs (ahead ++ flattened bucket.chain)) (sym (drop_all 32 bucket.own (omega (arith, long)))))
 
-  -- a place that is found is in its block or behind it
+  -- a place that is found is in the pointer's block or after it
   found_behind : (block : ℕ) (rows : List (List (Slot K V))) (here : Option ℕ) (next : Place)
       → option_or (option_map (λ pos. record { block = block; pos = pos }) here) (first_from is_live (block + 1) rows) ≡ Some next
       → block ≤ next.block

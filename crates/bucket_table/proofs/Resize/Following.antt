@@ -1,4 +1,4 @@
--- What arrays keep that are given up, pushed or made: their pairs, the bag of tickets and the law.
+-- What holds of arrays after one is dropped, pushed or made: their pairs, the bag of tickets and the law.
 use Rattle.bucket_table.proofs.Words.{All, All-nil, AreHome, ArePlaced, AreTwoArrays, ArraysView, BucketView, IsEntryHome, IsNewArray}
 use Rattle.bucket_table.proofs.Words.{IsPermutation-refl, IsVacant, Keeps, List, LosesNoUnit, ℕ, [], ap, append-nil, arith, bucket_at}
 use Rattle.bucket_table.proofs.Words.{empty_bucket, entries_among, false≢true, first_tickets, get_or_default, inl, length}
@@ -26,7 +26,7 @@ module _ {K V : Type 0} where
   pub new_entries : (capacity : ℕ) (fresh : List (BucketView K V)) → IsNewArray capacity fresh → entries_among fresh ≡ []
   new_entries capacity fresh new = ap (λ (bs : List (BucketView K V)). entries_among bs) new.empty ∙ no_entries_new (length fresh)
 
-  -- an array as it is made has no marks
+  -- a new array has no tombstones
   no_marks_new : (n : ℕ) → marks_among (replicate n (empty_bucket {K = K} {V = V})) ≡ []
   no_marks_new zero = refl
   no_marks_new (suc n) = no_marks_new n
@@ -34,7 +34,7 @@ module _ {K V : Type 0} where
   new_marks : (capacity : ℕ) (fresh : List (BucketView K V)) → IsNewArray capacity fresh → marks_among fresh ≡ []
   new_marks capacity fresh new = ap (λ (bs : List (BucketView K V)). marks_among bs) new.empty ∙ no_marks_new (length fresh)
 
-  -- another current array, where neither has a pair
+  -- the current array is replaced, if neither has a pair
   keeps_with : (old : ArraysView K V) (fresh : List (BucketView K V)) → entries_among old.current ≡ [] → entries_among fresh ≡ []
       → marks_among fresh ≡ [] → Keeps old (record old { current = fresh })
   keeps_with old fresh none empty unmarked = record {
@@ -62,7 +62,7 @@ module _ {K V : Type 0} where
   made_keeps old new is = rw is.new_is (keeps_with old is.fresh (rw (nil_from_length old.current is.none) refl)
       (new_entries _ _ is.fresh_is) (new_marks _ _ is.fresh_is))
 
-  -- a new array beside any that stands by the law
+  -- a new array beside any old one that obeys the law
   fresh_homes : (hash : K → ℕ) (capacity : ℕ) (fresh linked : List (BucketView K V)) → IsNewArray capacity fresh → AreHome hash linked
       → ((i : ℕ) → i < length linked → (bucket_at linked i).killed ≡ true → pairs_in (bucket_at linked i) ≡ [])
       → AreTwoArrays hash fresh linked

@@ -1,4 +1,4 @@
--- A plan gives an array up only where no slot is live, and asks for something only of a current array alone.
+-- A plan drops an array only if no slot is live, and changes something only if there is a current array and no old one.
 use Rattle.bucket_table.proofs.Words.{All, ArraysView, IsPlan, IsPlanTo, List, ℕ, [], ap, arith, cases_eq, cases_lt, inl, inr}
 use Rattle.bucket_table.proofs.Words.{last_estimate, length, slots_of, ⊎_elim, ◌*◌, ◌+◌, ◌/◌, ◌<◌, ◌≡◌, ◌≤◌}
 use Rattle.bucket_table.specs.declared.arrays.plan.Plan.{Plan}
@@ -7,7 +7,7 @@ use Rattle.bucket_table.specs.Resize.Resizing.{IsGivenUp, IsPlanOf}
 use Rattle.bucket_table.proofs.Views.Killed.{no_live}
 use Rattle.bucket_table.proofs.Resize.PlanIsOne.{all_or_not}
 
--- which case a plan is of
+-- the case of a plan
 abbrev pub plan_code : Plan → ℕ
 plan_code Keep = 0
 plan_code GiveUp = 1
@@ -25,7 +25,7 @@ never_given_up slots capacity P plan = ⊎_elim (λ (less : capacity < slots).
     (λ (ne : capacity ≡ slots → ⊥). let f = ap plan_code (plan.greater (omega arith)) in absurd (omega arith)) (cases_eq capacity slots))
     (cases_lt capacity slots)
 
--- no plan gives an array up unless the last estimate and the minimum are 0
+-- no plan drops an array unless the last estimate and the minimum are 0
 not_given_up : (counts : List ℕ) (minimum maximum : ℕ) (plan : IsPlan counts minimum maximum GiveUp)
     → (last_estimate counts plan.large ≡ 0 → minimum ≡ 0 → ⊥) → ⊥
 not_given_up counts minimum maximum plan standing =
@@ -37,13 +37,13 @@ not_given_up counts minimum maximum plan standing =
     not_kept (plan.settled standing (λ full. omega arith) (λ empty. omega arith))) (cases_lt last ((slots_of counts) / 8)))
     (cases_lt (((slots_of counts) / 16) * 13) last)
 
--- an array is given up only where no slot is live
+-- an array is dropped only if no slot is live
 pub emptied : (counts : List ℕ) (minimum maximum : ℕ) → IsPlan counts minimum maximum GiveUp → All (λ count. count ≡ 0) counts
 emptied counts minimum maximum plan = ⊎_elim (λ (all : All (λ (count : ℕ). count ≡ 0) counts). all)
     (λ (some : All (λ (count : ℕ). count ≡ 0) counts → ⊥). absurd (not_given_up counts minimum maximum plan
     (λ none least. not_kept (plan.not_emptied none least some)))) (all_or_not counts)
 
--- and only where the minimum is 0
+-- and only if the minimum is 0
 least_emptied : (counts : List ℕ) (minimum maximum : ℕ) → IsPlan counts minimum maximum GiveUp → minimum ≡ 0
 least_emptied counts minimum maximum plan = ⊎_elim (λ (none : minimum ≡ 0). none)
     (λ (some : minimum ≡ 0 → ⊥). absurd (not_given_up counts minimum maximum plan (λ none least. some least)))

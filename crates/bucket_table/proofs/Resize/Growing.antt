@@ -1,4 +1,4 @@
--- When a writer looks into a growth, by what the code reads; and what the growth leaves.
+-- When a writer tries a growth, by what the code reads; and what the growth leaves.
 use Rattle.bucket_table.proofs.Words.{ArePlaced, ArraysView, Bool, BucketView, CACHE, Current, Err, IsHome, IsLocked, IsTrue, Keeps, List}
 use Rattle.bucket_table.proofs.Words.{Ok, Old, Result, Side, ℕ, [], ap, arith, bucket_at, buckets_on, cases_lt, counted, entries_among}
 use Rattle.bucket_table.proofs.Words.{entries_in, false, false≢true, inl, inr, length, length-append, length-entries_in, nil_from_length}
@@ -36,7 +36,7 @@ module _ {K V : Type 0} (kind hash : ℕ) (arrays : ArraysView K V) (index : ℕ
     λ asks. near.1 asks.near,
   )
 
--- the side of the array that was the current one, once a resize is tried
+-- the side of the array that was the current one, after a resize is tried
 abbrev pub side_after : {E : Type 0} → Result Bool E → Side
 side_after (Ok true) = Old
 side_after (Ok false) = Current
@@ -54,7 +54,7 @@ module _ {K V : Type 0} where
       let none = ap (λ (es : List ((K × V) × ℕ)). length es) empty in
       no_live_here bs index (nil_from_length (entries_among bs) (omega (arith, both, none))) (omega (arith, within)) some
 
-  -- where a slot is live, a resize gives no array up, so it is a growth
+  -- if a slot is live, a resize doesn't drop the array, so it is a growth
   pub grown : {E : Type 0} (old new : ArraysView K V) (answer : Result Bool E) (index : ℕ) → TriesResize old answer new
       → index < length old.current → 0 < length (pairs_in (bucket_at old.current index)) → Grows (side_after answer) old new
   grown old new (Ok false) index tries within some = tries.1
@@ -84,7 +84,7 @@ module _ {K V : Type 0} where
       → IsLocked arrays Current index
   locked_ready hash index arrays ready home = locked_current arrays index home.within (ready.killed index home)
 
-  -- a first array, where there is none
+  -- a first array, if there is none
   pub kept_made : (old new : ArraysView K V) → MakesArray old new → Keeps old new
   kept_made old new h = elim (cases_lt 0 (length old.current)) [
     | inl some ↦ rw (h.0 some) (keeps_same old)

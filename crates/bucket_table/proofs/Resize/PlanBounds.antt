@@ -1,4 +1,4 @@
--- What the code of a plan computes, in the words of the plan.
+-- What the code of a plan computes, as the plan states it.
 use Rattle.bucket_table.proofs.Words.{All, BucketView, IsLargeSample, IsOptimalCapacity, IsPlan, IsPlanTo, List, ℕ, ap, arith}
 use Rattle.bucket_table.proofs.Words.{last_estimate, length, live_counts, refl, slots_of, subst, sym, ⊎_elim, ◌*◌, ◌+◌, ◌-◌, ◌/◌, ◌<◌, ◌∙◌}
 use Rattle.bucket_table.proofs.Words.{◌≡◌, ◌≤◌}
@@ -46,7 +46,7 @@ same_capacity slots capacity P is = record { unchanged = λ e. refl; greater = �
 pub grown : (slots capacity : ℕ) (P : ℕ → Type 0) → slots < capacity → IsPlanTo slots capacity P (Resize capacity)
 grown slots capacity P more = record { unchanged = λ e. absurd (omega arith); greater = λ h. refl; less = λ h. absurd (omega arith) }
 
--- a shrinking is given up, or done
+-- a shrinking is not done, or done
 pub given_up : (slots capacity asked : ℕ) (P : ℕ → Type 0) → capacity < asked → capacity < slots → P asked → IsPlanTo slots capacity P Keep
 given_up slots capacity asked P below less is =
     record { unchanged = λ e. refl; greater = λ more. absurd (omega arith); less = λ h. (asked, is, λ b. refl, λ le. absurd (omega arith)) }
@@ -56,7 +56,7 @@ pub shrunk : (slots capacity asked : ℕ) (P : ℕ → Type 0) → asked ≤ cap
 shrunk slots capacity asked P le less is =
     record { unchanged = λ e. absurd (omega arith); greater = λ more. refl; less = λ h. (asked, is, λ b. absurd (omega arith), λ b. refl) }
 
--- the plan by the last estimate: at an estimate of 0 a table that may be without an array, and one neither too full nor too empty
+-- the plan by the last estimate: at an estimate of 0 for a table that may be without an array, and for one neither too full nor too empty
 module _ {K V : Type 0} (buckets : List (BucketView K V)) (len large last minimum maximum : ℕ) (len_is : len ≡ length buckets)
     (sampled : IsLargeSample (length buckets) large) (last_is : last ≡ estimate (live_counts buckets) (len - large) large) where
   last_at : last ≡ last_estimate (live_counts buckets) large

@@ -26,7 +26,7 @@ to_is_one slots capacity P one a b p q = ⊎_elim (λ (less : capacity < slots).
     (cases_lt capacity slots)
 
 module _ (counts : List ℕ) (minimum maximum : ℕ) where
-  -- the plan by the estimate from the last buckets, where no drop is looked into
+  -- the plan by the estimate from the last buckets, if the array isn't dropped
   not_dropped : (large : ℕ) (a b : Plan) (p : IsPlan counts minimum maximum a)
       (q : IsPlan counts minimum maximum b) → p.large ≡ large → q.large ≡ large → (last_estimate counts large ≡ 0 → minimum ≡ 0 → ⊥) → a ≡ b
   not_dropped large a b p q p_is q_is standing =

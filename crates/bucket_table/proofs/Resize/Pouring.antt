@@ -1,4 +1,4 @@
--- Pairs put into a cache's array one after another: what is put after some was put after all.
+-- Pairs put into a cache's array one by one: putting some and then others is putting all.
 use Rattle.bucket_table.proofs.Words.{Bool, BucketView, IsDistinct, IsDistinct-tail, IsEquivalence, IsPermutation}
 use Rattle.bucket_table.proofs.Words.{IsPermutation-append_comm, IsPermutation-append_left, IsPermutation-append_right, IsPermutation-refl}
 use Rattle.bucket_table.proofs.Words.{IsPermutation-trans, List, TableView, ℕ, [], ap, append_assoc, arith, length, length-set, pairs_of}
@@ -13,7 +13,7 @@ moved_over xs ys zs =
     rw (← append_assoc xs ys zs, ← append_assoc ys xs zs)
     (IsPermutation-append_left zs (xs ++ ys) (ys ++ xs) (IsPermutation-append_comm xs ys))
 
--- what was put of two lists, and what went and is there
+-- the pairs put from two lists, and those that were evicted and those that are there
 module _ {A : Type 0} (xs ys all : List A) where
   later_first : IsPermutation ((xs ++ ys) ++ all) (ys ++ (xs ++ all))
   later_first = rw (append_assoc xs ys all) (moved_over xs ys all)
@@ -85,7 +85,7 @@ module _ {K V H : Type 0} {eq : K → K → Bool} (laws : IsEquivalence eq) wher
       }
 
 module _ {K V H : Type 0} (eq : K → K → Bool) (hash : H → K → ℕ) (first : TableView K V H) (all : List (K × V)) where
-  -- some of the pairs are in, and these are left
+  -- some of the pairs are in the table, and these are left
   pub record IsPouring (now : TableView K V H) (left : List (K × V)) : Type 0 where
     pub whole : (last : TableView K V H) → Pours hash now left last → Pours hash first all last
     pub awaits : Awaits eq now left
@@ -106,7 +106,7 @@ module _ {K V H : Type 0} {eq : K → K → Bool} (laws : IsEquivalence eq) (has
         awaits = awaits_rest laws hash now next xs ys before.awaits pours;
       }
 
-  -- the next ones are awaited
+  -- the table awaits the next ones
   pub pour_awaits : (now : TableView K V H) (left xs ys : List (K × V)) → left ≡ xs ++ ys → IsPouring eq hash first all now left
       → Awaits eq now xs
   pour_awaits now left xs ys same is =

@@ -1,4 +1,4 @@
--- A pair put into a cache whose one array has the greatest length: none grows, and the pair is in its home.
+-- A pair put into a cache whose only array has the maximum length: it doesn't grow, and the pair is in its home.
 use Rattle.bucket_table.proofs.Words.{All-from_recursion, AllByRecursion, ArraysView, Bool, BucketView, CACHE, Contains, Current, Err}
 use Rattle.bucket_table.proofs.Words.{IsEquivalence, IsHome, IsPermutation, IsPermutation-cons, IsPermutation-middle, IsPermutation-trans}
 use Rattle.bucket_table.proofs.Words.{List, MapState, None, Ok, Old, Option, ResizesIf, Result, Side, Some, TableView, ℕ, [], ap, arith}
@@ -17,14 +17,14 @@ use Rattle.bucket_table.specs.Map.MapState.{state_of}
 use Rattle.bucket_table.proofs.Map.Finding.{readies_sampled}
 
 module _ {K V : Type 0} where
-  -- no growth was done beside no old array
+  -- without an old array afterwards, there was no growth
   not_grown : (side : Side) (old new : ArraysView K V) → 0 < length old.current → length new.linked ≡ 0 → Grows side old new
       → side ≡ Current
   not_grown Current old new stands alone grows = refl
   not_grown Old old new stands alone (capacity, pushed) =
       absurd (omega (arith, ap (λ (a : ArraysView K V). length a.linked) pushed.new_is))
 
-  -- at its greatest length none is asked for
+  -- at its maximum length no growth is asked for
   not_asked : (kind hash index : ℕ) (old new : ArraysView K V) → kind ≡ CACHE → 32 * length old.current ≡ old.maximum
       → ResizesIf (WriterAsksGrowth kind hash old index) old new → new ≡ old
   not_asked kind hash index old new cache full resizes = elim resizes [
@@ -55,7 +55,7 @@ module _ {K V H : Type 0} {eq : K → K → Bool} (laws : IsEquivalence eq) (has
   abbrev byte : ℕ
   byte = hash old.hasher key % 256
 
-  -- what goes, of all pairs and the new one
+  -- what is evicted, of all pairs and the new one
   lost : (gone : Option (K × V)) → Puts eq key value (state_of kind old) (Ok gone) (state_of kind new)
       → (those : List (K × V)) × IsPermutation ((key, value) ∷ pairs_of old.arrays) (those ++ pairs_of new.arrays)
   lost None puts = ([], puts.1.pairs)

@@ -17,12 +17,12 @@ use Rattle.bucket_table.proofs.Resize.Following.{pushed_keeps, rehash_begun}
 use Rattle.bucket_table.proofs.Views.Keeping.{keeps_both}
 use Rattle.bucket_table.proofs.Views.Laws.{none_open}
 
--- of what is refused nothing need be shown
+-- nothing has to be shown if the call fails
 pub refused : {A E : Type 0} (P : Type 0) (answer : Result A E) → IsErr answer → OnOk answer P
 refused P (Ok x) is = absurd cc
 refused P (Err e) is = tt
 
--- what is always so is so at an error
+-- what always holds also holds after an error
 pub at_error : {A E : Type 0} (P : Type 0) (answer : Result A E) → P → OnErr answer P
 at_error P (Ok x) is = tt
 at_error P (Err e) is = is
@@ -43,25 +43,25 @@ tickets_none tickets is none =
     same_tickets tickets.position tickets.open_units tickets.len (omega (arith, at, none)) (none_open tickets is none) none
 
 module _ {K V : Type 0} where
-  -- where no old array stands no ticket is open
+  -- if there is no old array, no ticket is open
   pub unopened_alone : (arrays : ArraysView K V) → IsTicketState arrays.tickets → arrays.tickets.len ≡ length arrays.linked
       → length arrays.linked ≡ 0 → unopened arrays ≡ arrays
   unopened_alone arrays is same none =
       ap (λ (t : TicketState). record arrays { tickets = t })
       (ap (λ (n : ℕ). first_tickets n) none ∙ sym (tickets_none arrays.tickets is (same ∙ none)))
 
-  -- the units of an old array may be worked again from the first on: what is killed has no pair left
+  -- the units of an old array may be worked again from the first on: killed buckets have no pair left
   pub unopened_placed : (hash : K → ℕ) (arrays : ArraysView K V) → ArePlaced hash arrays → ArePlaced hash (unopened arrays)
   unopened_placed hash arrays law = record {
     homes = law.homes;
     rehashed = rehash_begun arrays.linked law.rehashed.emptied;
   }
 
-  -- no unit of the array that is the old one now was handed out
+  -- no unit of the array that has just become the old one was issued
   pub pushed_unopened : (capacity : ℕ) (old new : ArraysView K V) → IsPushed capacity old new → new.tickets.open_units ≡ []
   pushed_unopened capacity old new is = ap (λ (a : ArraysView K V). a.tickets.open_units) is.new_is
 
-  -- an old bucket wanted memory in the rehash that was on
+  -- an old bucket needed memory in the rehash that was under way
   pub begun_wants : {A E : Type 0} (old begun second : ArraysView K V) → begun ≡ unopened old → (answer : Result A E) (error : E)
       → OnErr answer (WantsMemory (λ i. Unit {0}) begun second) → answer ≡ Err error → WantsMemory (λ i. Unit {0}) (unopened old) second
   begun_wants {A} {E} old begun second is answer error wants was =
@@ -72,7 +72,7 @@ module _ {K V : Type 0} where
       → KeepsArrays (unopened old) second
   begun_keeps old begun second is kept = subst (λ (a : ArraysView K V). KeepsArrays a second) is kept
 
--- the rehash that is on is finished, no ticket of it being open
+-- the rehash that is under way is finished, if no ticket of it is open
 module _ {K V A E : Type 0} (capacity : ℕ) (old begun second : ArraysView K V) (is : begun ≡ unopened old)
     (tickets : IsTicketState old.tickets) (law : AreArrays old) (answer : Result A E) (done : A)
     (alone : length begun.linked ≡ 0 → (answer ≡ Ok done) × (second ≡ begun)) where
@@ -86,13 +86,13 @@ module _ {K V A E : Type 0} (capacity : ℕ) (old begun second : ArraysView K V)
   not_refused error was there = let same : Ok done ≡ Err error = sym (nothing_on there).0 ∙ was in absurd cc
 
 module _ {K V : Type 0} (capacity : ℕ) (old second : ArraysView K V) (first : KeepsArrays (unopened old) second) where
-  -- another length is wanted
+  -- another length is needed
   pub elsewhere : (len wanted : ℕ) → len ≡ length second.current → IsLengthFor capacity wanted → (len ≡ wanted → ⊥)
       → IsLengthFor capacity (length old.current) → ⊥
   elsewhere len wanted len_is for apart there = apart (len_is ∙ first.current_len ∙ len_is_one capacity _ wanted there for)
 
 module _ {K V E : Type 0} (capacity : ℕ) (old second : ArraysView K V) (first : KeepsArrays (unopened old) second) where
-  -- the rehash that was on has ended, or was refused
+  -- the rehash that was under way has ended, or failed
   pub stands : (answer : Result (Unit {0}) E) → second.tickets.open_units ≡ [] → OnOk answer (IsSettledAt capacity second)
       → (IsSettledAt capacity old → (answer ≡ Ok tt) × (second ≡ old))
       → OnErr answer (IsLengthFor capacity (length old.current) → WantsMemory (λ i. Unit {0}) (unopened old) second)
@@ -107,7 +107,7 @@ module _ {K V E : Type 0} (capacity : ℕ) (old second : ArraysView K V) (first 
     refused = wanted;
   }
 
-  -- an array was made, and all pairs have moved there, or were refused on the way
+  -- an array was made, and all pairs have moved there, or a move failed
   pub moved_all : (answer : Result (Unit {0}) E) (pushed third : ArraysView K V) → IsPushed capacity second pushed
       → KeepsArrays pushed third → third.tickets.open_units ≡ [] → OnOk answer (length third.linked ≡ 0)
       → (IsLengthFor capacity (length old.current) → ⊥) → RehashesTo capacity old answer third
@@ -130,7 +130,7 @@ module _ {K V E : Type 0} (capacity : ℕ) (old second : ArraysView K V) (first 
 
 module _ {K V E : Type 0} (capacity : ℕ) (old : ArraysView K V) (answer : Result (Unit {0}) E) (new : ArraysView K V)
     (done : RehashesTo capacity old answer new) where
-  -- the arrays are one map still
+  -- the arrays are still one map
   pub counted_remade : (eq : K → K → Bool) → IsEquivalence eq → (hash : K → ℕ) {count : ℕ} → IsCountedMap eq hash old count
       → ArePlaced hash new → IsCountedMap eq hash new count
   counted_remade eq laws hash was placed = map_kept eq laws hash (unopened old) new (record {

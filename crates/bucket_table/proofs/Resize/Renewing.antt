@@ -1,4 +1,4 @@
--- A cache's new array, and what it is once all pairs are in.
+-- A cache's new array, and what it is after all pairs are in it.
 use Rattle.bucket_table.proofs.Words.{ArraysView, Bool, IsDistinct, IsDistinct-IsPermutation, IsEquivalence, IsLengthFor, IsNewArray}
 use Rattle.bucket_table.proofs.Words.{IsPermutation, IsPermutation-map, IsPermutation-trans, List, TableView, ℕ, [], ap}
 use Rattle.bucket_table.proofs.Words.{append-nil, arith, first_tickets, length, length_permutation, map, nil_from_length, pairs_of, refl}
@@ -22,12 +22,12 @@ full_length capacity len is fits (power, least, len_is) =
     let parts = power_parts 5 k (exponent_le 5 k (omega (arith, capacity_is, is.at_least))) in
     omega (arith, len_is, capacity_is ∙ parts, least.least capacity is.power (omega arith), least.at_least, is.at_least, fits)
 
--- a power of two that is a number of 64 bits is at most 2^63
+-- a power of two that fits in 64 bits is at most 2^63
 pub power_in : (capacity : ℕ) → IsPowerOfTwo capacity → 64 ≤ capacity → capacity < 2 ^ 64 → IsPowerIn 64 (2 ^ 63) capacity
 power_in capacity power large fits =
     record { power = power; at_least = large; at_most = omega (arith, double_fits capacity (2 ^ 64) power (64, refl) fits) }
 
--- arrays of which a new one stands alone
+-- arrays of which the only one is new
 pub record IsFresh {K V : Type 0} (capacity : ℕ) (arrays : ArraysView K V) : Type 0 where
   pub array : IsNewArray capacity arrays.current
   pub full : 32 * length arrays.current ≡ capacity
@@ -55,7 +55,7 @@ module _ {K V H : Type 0} {eq : K → K → Bool} (laws : IsEquivalence eq) (has
   abbrev first : TableView K V H
   first = record { hasher = hasher; arrays = fresh }
 
-  -- all pairs are awaited
+  -- the table awaits all pairs
   pub awaits_all : 64 ≤ capacity → IsDistinct eq (map (λ (pair : K × V). pair.0) (pairs_of old)) → Awaits eq first (arrays_by_age old)
   awaits_all large distinct =
       let full = is.full in

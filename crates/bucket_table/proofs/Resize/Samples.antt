@@ -4,11 +4,11 @@ use Rattle.bucket_table.proofs.Words.{length-map, live_counts, pairs_in, ◌+◌
 use Rattle.std.proofs.lemmas.List.{get_or-drop, length-drop}
 use Rattle.std.proofs.lemmas.List.Sums.{sum_by_more}
 
--- how many slots of a bucket are live
+-- the number of live slots of a bucket
 abbrev pub live_len : {K V : Type 0} → BucketView K V → ℕ
 live_len bucket = length (pairs_in bucket)
 
--- one bucket more of a sample
+-- one more bucket of a sample
 pub counted_more : (counts : List ℕ) (start offset : ℕ) → start + offset < length counts
     → counted counts start (offset + 1) ≡ counted counts start offset + get_or counts (start + offset) 0
 counted_more counts start offset within =

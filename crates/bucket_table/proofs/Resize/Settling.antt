@@ -13,7 +13,7 @@ module _ {K V : Type 0} where
   resizes old new (Ok moved) tries = (Ok moved, tries)
   resizes old new (Err refused) tries = (Err tt, tries)
 
-  -- what was asked for was tried, and what wasn't asked for wasn't
+  -- the resize was tried exactly if it was asked for
   pub resizes_asked : {E Asked : Type 0} (old new : ArraysView K V) (answer : Result Bool E) → Asked → TriesResize old answer new
       → ResizesIf Asked old new
   resizes_asked old new answer asks tries = inl (asks, resizes old new answer tries)
@@ -25,7 +25,7 @@ module _ {K V : Type 0} where
   not_asked none (inl did) = absurd (none did.0)
   not_asked none (inr stays) = stays.1
 
-  -- the law says nothing of the minimum
+  -- the law doesn't mention the minimum
   pub placed_with : (hash : K → ℕ) (arrays : ArraysView K V) (least : ℕ) → ArePlaced hash arrays
       → ArePlaced hash (with_minimum arrays least)
   placed_with hash arrays least law = record { homes = law.homes; rehashed = law.rehashed }
@@ -42,7 +42,7 @@ module _ {K V : Type 0} where
   map_raised eq laws hash old new least was kept placed =
       map_kept eq laws hash (with_minimum old least) new (map_with eq hash old least was) kept placed
 
--- what is asked for is granted where there is room for it
+-- what is asked for is granted if there is room for it
 granted : (room wanted answer : ℕ) → (room < wanted → answer ≡ 0) → (wanted ≤ room → answer ≡ wanted)
     → answer ≡ (if nat_le wanted room then wanted else 0)
 granted room wanted answer much fits = elim (cases_lt room wanted) [

@@ -1,4 +1,4 @@
--- What a shrinking leaves of the arrays for which the number of pairs has to agree.
+-- What a shrinking for which the number of pairs must agree leaves of the arrays.
 use Rattle.bucket_table.proofs.Words.{ArePlaced, ArraysView, Err, Keeps, None, Ok, OnErr, OnOk, Option, Result, Some, ℕ, inl, inr, refl}
 use Rattle.bucket_table.proofs.Words.{◌≡◌, ◌⊎◌}
 use Rattle.bucket_table.specs.Resize.Asking.{AsksShrinking, ResizesIf, ShrinksBy}
@@ -16,7 +16,7 @@ module _ {K V : Type 0} where
   unemptied None Emptied index arrays none = inr (λ asks. none asks.0, refl)
   unemptied (Some pairs) Emptied index arrays none = inr (λ asks. none asks.0, refl)
 
-  -- one was emptied, and so what was asked for near it was done
+  -- one was emptied, and what the slots near it asked for was done
   pub emptied_plan : {Emptied : Type 0} (index : ℕ) (old new : ArraysView K V) → Emptied → ResizesIf (AsksShrinking old index) old new
       → ShrinksBy None Emptied index old new
   emptied_plan index old new empty (inl did) = inl ((empty, did.0), did.1)

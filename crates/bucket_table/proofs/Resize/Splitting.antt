@@ -21,7 +21,7 @@ module _ {K V : Type 0} (hash : ℕ) (old doubled : ArraysView K V) (is : Splits
       let now = ap (λ (a : ArraysView K V). length a.current) is.pushed.new_is in
       omega (arith, least.at_least, len, long.at_most, was, now)
 
-  -- so allocation can't fail for the home: it has one source, which has as many pairs as own slots
+  -- so allocation can't fail for the home: it has one source, with as many pairs as own slots
   pub split_fetches : (new : ArraysView K V) → IsLength (length doubled.linked) → IsLength (length doubled.current)
       → KeepsArrays doubled new → WorksUnits 1 (IsHome (length new.current) hash) doubled new → HomeWantsMemory hash doubled new → ⊥
   split_fetches new linked current kept units (index, home, wants) =

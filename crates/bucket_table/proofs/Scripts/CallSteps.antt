@@ -47,7 +47,7 @@ module _ {K V H : Type 0} where
   pub counted_before : (n : ℕ) (a b : MapState K V H) → KeepsPairs a b → n ≡ counted_to b.pairs → n ≡ counted_to a.pairs
   counted_before n a b keeps counted = counted ∙ ap (λ m. min m (2 ^ 64 - 1)) (length_permutation a.pairs b.pairs keeps.pairs)
 
-  -- no pair is left in another order
+  -- if no pair is left, none was there in another order
   pub none_before : (a b : MapState K V H) → KeepsPairs a b → b.pairs ≡ [] → a.pairs ≡ []
   none_before a b keeps none = none_of a.pairs (sym (length_permutation a.pairs b.pairs keeps.pairs)
       ∙ ap (λ (ps : List (K × V)). length ps) none)

@@ -1,4 +1,4 @@
--- A run goes on by one step.
+-- A run is extended by one step.
 use Rattle.bucket_table.proofs.Words.{List, ℕ, [], ap, get_or, length, refl, subst, sym, take, take_more, ◌++◌, ◌+◌, ◌<◌, ◌∙◌, ◌∷◌, ◌≡◌}
 use Rattle.bucket_table.specs.Scripts.Runs.{Run}
 
@@ -12,7 +12,7 @@ module _ {S C R : Type 0} (step : S → C → R → S → Type 0) where
   run_more first between last (c ∷ calls) (r ∷ replies) call reply ran taken =
       (ran.0, ran.1, run_more ran.0 between last calls replies call reply ran.2 taken)
 
-  -- the run of the first i calls and the step of the next are the run of one call more
+  -- the run of the first i calls and the step of the next one are a run with one more call
   pub run_next : (first between last : S) (calls : List C) (i : ℕ) (replies news : List R) (call : C) (reply : R)
       → i < length calls → call ≡ get_or calls i call → news ≡ replies ++ reply ∷ [] → Run step first (take i calls) replies between
       → step between call reply last → Run step first (take (i + 1) calls) news last

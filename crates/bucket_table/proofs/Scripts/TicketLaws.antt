@@ -1,4 +1,4 @@
--- An old array that went doesn't come back by calls of the rehash.
+-- An old array that was dropped doesn't come back by calls of the rehash.
 use Rattle.bucket_table.proofs.Words.{All, Bool, Err, List, None, Ok, Option, Result, Some, Starts, ℕ, [], arith, false, length_permutation}
 use Rattle.bucket_table.proofs.Words.{refl, suc, true, ◌∷◌, ◌≡◌}
 use Rattle.bucket_table.specs.Scripts.Runs.{Run}
@@ -11,7 +11,7 @@ use Rattle.bucket_table.specs.declared.script.call.Call.TheVariants.{End, Peek, 
 use Rattle.bucket_table.specs.declared.script.reply.Reply.{Reply}
 use Rattle.bucket_table.specs.declared.script.reply.Reply.TheVariants.{Done, Ended, Fault, NoTicket, NoWork, Refused, Ticket}
 
--- from no old array the calls of the rehash lead to none
+-- without an old array, the calls of the rehash lead to none
 none_started : (answer : Option ℕ) (after : RehashState) → Starts no_rehash.tickets answer after.tickets → after.killed ≡ []
     → after ≡ no_rehash
 none_started None after starts killed = rw (starts.1, killed) refl

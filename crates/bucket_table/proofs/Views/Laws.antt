@@ -1,4 +1,4 @@
--- What arrays keep where a new one is the current one, and tickets of no array.
+-- What holds of arrays when the current one is new, and tickets without an array.
 use Rattle.bucket_table.proofs.Words.{All, AreArrays, ArraysView, BucketView, IsNewArray, List, LosesNoUnit, TicketState, ℕ, [], arith}
 use Rattle.bucket_table.proofs.Words.{cases_lt, first_tickets, inl, inr, length, refl, ◌*◌, ◌<◌, ◌∙◌, ◌∷◌, ◌≡◌, ◌≤◌}
 use Rattle.bucket_table.specs.Rehash.Finishing.{IsUnopened}
@@ -28,7 +28,7 @@ none_open tickets is none = all_below tickets.len tickets.open_units none is.uni
     all_below len [] none all = refl
     all_below len (u ∷ units) none all = let here : 64 * u < len = all 0 0 (omega arith) in absurd (omega arith)
 
--- where there is no old array no unit of it is lost
+-- without an old array no unit of it is lost
 pub loses_none : {K V : Type 0} → LosesNoUnit {K = K} {V = V} [] (first_tickets 0)
 loses_none = record {
   covered =

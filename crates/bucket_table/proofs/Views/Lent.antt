@@ -1,4 +1,4 @@
--- One side of a table's arrays with another bucket.
+-- A table's arrays with one bucket of one side replaced.
 use Rattle.bucket_table.proofs.Words.{AreArrays, ArraysView, Bool, BucketView, Current, List, None, Old, Option, Side, Some, TicketState, ℕ}
 use Rattle.bucket_table.proofs.Words.{ap, arith, arrays_with, first_tickets, length, length-set, list_of, refl, set, sym, ◌∙◌, ◌≡◌}
 use Rattle.bucket_slots.specs.Digested.{TakesWanted}
@@ -18,7 +18,7 @@ module _ {K V : Type 0} where
 
 module _ {K V : Type 0} (minimum maximum : ℕ) (other : List (BucketView K V)) (held : Option (List (BucketView K V)))
     (tickets : TicketState) where
-  -- arrays of which one side is this
+  -- arrays of which one side is this list
   abbrev with_linked : List (BucketView K V) → ArraysView K V
   with_linked linked = record { minimum = minimum; maximum = maximum; current = other; linked = linked; tickets = tickets }
 
@@ -68,7 +68,7 @@ module _ {K V : Type 0} (minimum maximum : ℕ) (other : List (BucketView K V)) 
 module _ {K V : Type 0} (wants : K → Bool) (byte index : ℕ) (minimum maximum : ℕ) (other : List (BucketView K V))
     (held after : Option (List (BucketView K V))) (tickets : TicketState) (result : Option ((K × V) × ℕ))
     (taken : TakesWanted wants byte index (list_of held) result (list_of after)) where
-  -- a take leaves as many buckets
+  -- taking a pair leaves the number of buckets the same
   taken_len : length (list_of after) ≡ length (list_of held)
   taken_len = go result taken
     where

@@ -1,10 +1,10 @@
--- A locked bucket may change, and what is known of it is a fact that has one proof.
+-- A locked bucket may change, and what is known of it is a fact with only one proof.
 use Rattle.bucket_table.proofs.Words.{All, AreTwoArrays, BucketView, IsEntryHome, IsVacant, List, Meets, ℕ, arith, bucket_at, entries_in}
 use Rattle.bucket_table.proofs.Words.{false, length, set, subst, true, ◌<◌, ◌≡◌, ◌≤◌}
 use Rattle.bucket_table.proofs.Moves.Exchanges.{changes_at, each_after}
 
 module _ {K V : Type 0} where
-  -- a current bucket may hold any pairs of its own, where its sources are killed or targets needn't be empty
+  -- a current bucket may hold any pairs whose home it is, if its sources are killed or targets don't have to be empty
   pub law_after_change : (hash : K → ℕ) (c l : List (BucketView K V)) (index : ℕ)
       (b : BucketView K V) → AreTwoArrays hash c l → index < length c
       → (length l ≤ length c → (i : ℕ) → i < length l → Meets (length l) i (length c) index → (bucket_at l i).killed ≡ true)

@@ -1,4 +1,4 @@
--- A borrowed bucket with another table behind it.
+-- A borrowed bucket whose table is another one.
 use Rattle.bucket_table.proofs.Words.{ArraysView, IsLocked, Side, TableView, ℕ, ap, subst, ◌≡◌}
 use Rattle.std.proofs.Props.{props}
 use Rattle.bucket_table.specs.declared.hash_table.locked_bucket.LockedBucket.{LockedBucket}
@@ -7,7 +7,7 @@ use Rattle.std.specs.declared.default.Default as default
 use Rattle.bucket_slots.specs.declared.lru.LruList as list
 use Rattle.bucket_table.specs.declared.key_hash.KeyHash as key_hash
 
--- that a bucket may be locked is a fact with one proof
+-- the fact that a bucket may be locked has one proof
 locked_prop : {K V : Type 0} (a : ArraysView K V) (side : Side) (i : ℕ) (p q : IsLocked a side i) → p ≡ q
 locked_prop a side i = hlevel props
 

@@ -1,4 +1,4 @@
--- The law of two arrays, and all their pairs, where one bucket of one of them changes.
+-- The law of two arrays, and all their pairs, when one bucket of one of them changes.
 use Rattle.bucket_table.proofs.Words.{All, All-append, All-permutation, All-tail, ArePlaced, AreSourcesKilled, AreTwoArrays, ArraysView}
 use Rattle.bucket_table.proofs.Words.{Bool, BucketView, Current, IsEntryHome, IsLocked, IsPermutation, IsPermutation-append_right}
 use Rattle.bucket_table.proofs.Words.{IsPermutation-map, IsPermutation-trans, List, LosesNoUnit, Meets, Old, Place, Side, Some, TicketState}
@@ -38,7 +38,7 @@ module _ {K V : Type 0} where
     vacant = λ e. absurd cc;
   }
 
-  -- bucket i of one side is b now: the entries `out` went, and `came` came
+  -- bucket i of one side is now b: the entries `out` were removed, and the entries `came` added
   pub record Exchanges (a : ArraysView K V) (side : Side) (i : ℕ) (came out : List ((K × V) × ℕ)) (b : BucketView K V) : Type 0 where
     pub within : i < length (buckets_on a side)
     pub moved : IsPermutation (came ++ entries_in (bucket_at (buckets_on a side) i)) (out ++ entries_in b)
@@ -57,7 +57,7 @@ module _ {K V : Type 0} where
       let c = a.current in
       regrouped came out (entries_among c) (entries_among (set c i b)) (entries_among a.linked) (exchanged came out c i b within moved)
 
-  -- another bucket exchanges pairs among all, where it does so among its own
+  -- another bucket exchanges pairs among all, if it does so among its own
   pub pairs_exchanged : (a : ArraysView K V) (side : Side) (i : ℕ) (came out : List ((K × V) × ℕ))
       (b : BucketView K V) → i < length (buckets_on a side)
       → IsPermutation (came ++ entries_in (bucket_at (buckets_on a side) i)) (out ++ entries_in b)
@@ -70,7 +70,7 @@ module _ {K V : Type 0} where
       (subst (IsPermutation (map pair (came ++ entries_of a))) (map-append pair out (entries_of after))
       (IsPermutation-map pair _ _ (entries_exchanged a side i came out b within moved)))
 
-  -- a bucket as killed as the one before leaves the flags as they were
+  -- a bucket that is killed exactly if the one before was leaves the flags as they were
   pub flags_same : (bs : List (BucketView K V)) (i : ℕ) (b : BucketView K V) → i < length bs
       → b.killed ≡ (bucket_at bs i).killed → killed_flags (set bs i b) ≡ killed_flags bs
   flags_same bs i b within same = map-set (λ (c : BucketView K V). c.killed) bs i b ∙ ap (λ (flag : Bool). set (killed_flags bs) i flag)
@@ -86,7 +86,7 @@ module _ {K V : Type 0} where
         kept.emptied;
   }
 
-  -- an old bucket that isn't killed may hold any pairs of its own
+  -- an old bucket that isn't killed may hold any pairs whose home it is
   old_after_change : (hash : K → ℕ) (c l : List (BucketView K V)) (index : ℕ) (b : BucketView K V)
       → AreTwoArrays hash c l → index < length l → All (IsEntryHome hash (length l) index) (entries_in b)
       → b.killed ≡ (bucket_at l index).killed → b.killed ≡ false → AreTwoArrays hash c (set l index b)
@@ -106,13 +106,13 @@ module _ {K V : Type 0} where
             (subst (λ (n : ℕ). Meets n i (length c) j) len meets);
       }
 
-  -- each pair of a bucket stands in its home
+  -- each pair of a bucket is in its home
   pub homes_on : (hash : K → ℕ) (a : ArraysView K V) (side : Side) (i : ℕ) → ArePlaced hash a → i < length (buckets_on a side)
       → All (IsEntryHome hash (length (buckets_on a side)) i) (entries_in (bucket_at (buckets_on a side) i))
   homes_on hash a Old i law within = law.homes.linked_home i within
   homes_on hash a Current i law within = law.homes.current_home i within
 
-  -- a bucket whose pairs may change: an old one isn't killed, and a current one isn't a target that has to be empty
+  -- a bucket whose pairs may change: an old one isn't killed, and a current one isn't a target that must be empty
   pub record IsChangeable (a : ArraysView K V) (side : Side) (i : ℕ) : Type 0 where
     pub within : i < length (buckets_on a side)
     pub filled : side ≡ Current → length a.linked ≤ length a.current → AreSourcesKilled a i
@@ -126,7 +126,7 @@ module _ {K V : Type 0} where
       let less = length_permutation (pairs_in b) (p ∷ pairs_in (slots_without b at)) (pairs_in-slots_without b at p here) in
       absurd (omega (arith, less, ap (λ (ps : List (K × V)). length ps) none))
 
-  -- a bucket that has a pair is no empty target, and isn't killed
+  -- a bucket that has a pair isn't an empty target, and isn't killed
   pub changeable_filled : (hash : K → ℕ) (a : ArraysView K V) (side : Side) (i : ℕ) → ArePlaced hash a
       → i < length (buckets_on a side) → (pairs_in (bucket_at (buckets_on a side) i) ≡ [] → ⊥) → IsChangeable a side i
   changeable_filled hash a Old i law within some = record {
@@ -166,13 +166,13 @@ module _ {K V : Type 0} where
     rehashed = law.rehashed;
   }
 
-  -- and where a locked bucket is another one
+  -- and if a locked bucket is replaced
   pub placed_change : (hash : K → ℕ) (a : ArraysView K V) (side : Side) (i : ℕ) (b : BucketView K V) → ArePlaced hash a → IsLocked a side i
       → All (IsEntryHome hash (length (buckets_on a side)) i) (entries_in b) → b.killed ≡ (bucket_at (buckets_on a side) i).killed
       → ArePlaced hash (arrays_with a side i b)
   placed_change hash a side i b law locked homes same = placed_after hash a side i b law (changeable_locked a side i locked) homes same
 
-  -- what came in and what was there has its home there, so what is there has
+  -- the entries that came in and those that were there have their home there, so those that are there now do
   pub homes_moved : (hash : K → ℕ) (len i : ℕ) (came out : List ((K × V) × ℕ))
       (b c : BucketView K V) → IsPermutation (came ++ entries_in b) (out ++ entries_in c)
       → All (IsEntryHome hash len i) (entries_in b) → All (IsEntryHome hash len i) came → All (IsEntryHome hash len i) (entries_in c)

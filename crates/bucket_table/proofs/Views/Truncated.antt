@@ -1,4 +1,4 @@
--- The law of one map, where it is known to hold and no proof of it is at hand: each of its parts has one proof at most, or is decided.
+-- The law of one map, when it is known to hold but no proof of it is available: each of its parts has at most one proof, or is decidable.
 use Rattle.bucket_table.proofs.Words.{AreHome, ArraysView, Bool, BucketView, Contains, Contains-append_right, IsOneMap, List, ℕ, [], ap}
 use Rattle.bucket_table.proofs.Words.{arith, cases_eq, cases_lt, inl, inr, killed_flags, length, nil_from_length, refl, ⊎_elim, ◌*◌, ◌<◌}
 use Rattle.bucket_table.proofs.Words.{◌∷◌, ◌≡◌, ◌⊎◌}
@@ -13,7 +13,7 @@ use Rattle.std.proofs.lemmas.Map.Made.{Contains-tail}
 at_head : (unit : ℕ) (units : List ℕ) → Contains (unit ∷ units) unit
 at_head unit units = (0, omega arith, refl)
 
--- whether a unit is one of some
+-- whether a unit is one of some units
 has_unit : (units : List ℕ) (unit : ℕ) → Contains units unit ⊎ (Contains units unit → ⊥)
 has_unit [] unit = inr (λ there. omega (arith, there.1))
 has_unit (first ∷ units) unit = elim (cases_eq first unit) [

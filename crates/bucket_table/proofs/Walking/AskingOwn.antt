@@ -1,4 +1,4 @@
--- A bucket whose own slots were asked for at once: what is gone, and what is ahead.
+-- A bucket with whose own slots a closure was called at once: what is removed, and what is ahead.
 use Rattle.bucket_table.proofs.Words.{Bool, BucketView, CACHE, IsBucketOf, List, Place, Slot, [], ap, append_assoc, arith}
 use Rattle.bucket_table.proofs.Words.{bucket_with_value, false, free, if◌then◌else◌, inl, inr, is_live, length, live, live_pair, marked}
 use Rattle.bucket_table.proofs.Words.{pairs_ahead, pairs_in, refl, slot_in, slots_marked, slots_without, subst, sym, true, ℕ, ◌++◌, ◌==◌}
@@ -36,7 +36,7 @@ module _ {S K V : Type 0} (step : S → Bor K → MutBor V → Bool → MutBor V
   pairs_by true p byte rest = refl
   pairs_by false p byte rest = refl
 
-  -- slot by slot is pair by pair
+  -- slot by slot is the same as pair by pair
   pub each_slot : (first last : S) (slots left : List (Slot K V)) → AsksSlots step first slots left last
       → RetainsEach step first (live_pairs slots) (live_pairs left) last
   each_slot first last [] left (none, same) = (ap live_pairs none, same)
@@ -59,7 +59,7 @@ module _ {S K V : Type 0} (step : S → Bor K → MutBor V → Bool → MutBor V
     each_slot mid last slots rest later,
   )
 
-  -- a walk that has asked for the own slots goes on in the chain
+  -- a walk whose closure was called with the own slots continues in the chain
   pub asking_front : (first last : S) (old new : BucketView K V) (at : Place) → length old.own ≡ 32
       → AsksFront step first old at new last → IsAsking step first old last new at
   unfolding AsksFront
@@ -76,7 +76,7 @@ module _ {S K V : Type 0} (step : S → Bor K → MutBor V → Bool → MutBor V
       })
 
 module _ {S K V : Type 0} (step : S → Bor K → MutBor V → Bool → MutBor V → S → Type 0) (kind epoch : ℕ) where
-  -- a slot that was asked for is changed at its place, or nothing is
+  -- a slot that the closure was called for is changed at its place, or nothing is
   one_left : (s : BucketView K V) (front rest : List (Slot K V)) (slot here : Slot K V) (first last : S) → s.listed ≡ []
       → (kind == INDEX) ≡ false → AsksSlot step first slot here last
       → IsLeftOf kind epoch (record s { own = front ++ slot ∷ rest }) (record s { own = front ++ here ∷ rest })
@@ -120,7 +120,7 @@ module _ {S K V : Type 0} (step : S → Bor K → MutBor V → Bool → MutBor V
       rw is (left_both kind epoch (record s { own = front ++ slot ∷ slots }) (record s { own = front ++ here ∷ slots })
       (record s { own = front ++ here ∷ rest }) (one_left s front slots slot here first mid none other asked) behind)
 
-  -- a map's bucket whose own slots were asked for is left so
+  -- what is left of a map's bucket whose own slots the closure was called with
   pub left_own : (first last : S) (old new : BucketView K V) → kind ≢ INDEX → kind ≢ CACHE → IsBucketOf kind old
       → AsksOwn step first old new last → IsLeftOf kind epoch old new
   left_own first last old new no_index no_cache laws asks =

@@ -1,4 +1,4 @@
--- A function is asked for the pair in a live slot of a bucket, which stays with its value or goes.
+-- A function is called with the pair in a live slot of a bucket, which stays with its value or is removed.
 use Rattle.bucket_table.proofs.Words.{Bool, BucketView, IsBucketOf, List, None, Option, Place, Slot, Some, [], ap, bucket_with_value, false}
 use Rattle.bucket_table.proofs.Words.{false≢true, if◌then◌else◌, inl, inr, is_live, live, live_pair, not, pairs_ahead, pairs_in, refl}
 use Rattle.bucket_table.proofs.Words.{same_Some, slot_in, slots_marked, slots_without, sym, true, true≢false, ℕ, ◌++◌, ◌==◌, ◌∙◌, ◌∷◌, ◌≡◌}
@@ -70,7 +70,7 @@ module _ {S K V : Type 0} (step : S → Bor K → MutBor V → Bool → MutBor V
           ahead = v.ahead;
         }
 
-    -- or it goes
+    -- or it is removed
     pub goes_at : (epoch : ℕ) (picked : Option (K × V)) (new : BucketView K V) (to : Place) → beq answer keeps ≡ false
         → IsBucketOf kind changed
         → (kind ≢ INDEX → picked ≡ live_pair (slot_in changed at)) → new ≡ slots_taken kind epoch changed at

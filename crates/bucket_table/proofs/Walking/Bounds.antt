@@ -7,7 +7,7 @@ use Rattle.std.proofs.Math.Nat.{add-mul, div-mul-le_self, lt-div-mul-add, mul_co
 use Rattle.std.proofs.lemmas.Bool.{and_parts}
 use Rattle.bucket_slots.proofs.PowersOfTwo.{exponent_le, power_parts, power_quotient}
 
--- no pair has a hash from one bound up to below another
+-- no pair has a hash from one bound up to but not including another
 abbrev pub HasNoneBetween : {K V : Type 0} → (K → ℕ) → ℕ → ℕ → List (K × V) → Type 0
 HasNoneBetween hash low high pairs = AllByRecursion (λ pair. low ≤ hash pair.0 → hash pair.0 < high → ⊥) pairs
 
@@ -58,7 +58,7 @@ wide n l =
           absurd (omega (arith, whole, nothing_left))
     ]
 
--- a walk that goes on in another array begins no later than where the hashes do that it hasn't seen
+-- a walk that continues in another array begins no later than the hashes that it hasn't visited
 pub begins_early : (from to index low high : ℕ) → 0 < interval_width from → 0 < interval_width to
     → ((j : ℕ) → IsInRange low high j ↔ Meets from index to j) → bound_of to low ≤ bound_of from index
 begins_early from to index low high some wide_to range =

@@ -46,7 +46,7 @@ module _ {K V : Type 0} (hash : K → ℕ) where
         (pairs_in_all arrays.current ++ pairs_in_all arrays.linked)
     parted = subst (HasNoneBetween hash bound (bound_of (length arrays.current) index)) (pairs_are arrays) passed
 
-    -- a cursor at a bucket has passed the current buckets below
+    -- a cursor at a bucket has passed the lower current buckets
     pub none_below : (j : ℕ) → j < index → HasNoneFrom hash bound (pairs_in (bucket_on arrays Current j))
     none_below j below =
         let c = arrays.current in
@@ -60,7 +60,7 @@ module _ {K V : Type 0} (hash : K → ℕ) where
           | inr more ↦ absurd (none more (omega (arith, own.1, up)))
         ]) never homes
 
-    -- and the old buckets with a target below
+    -- and the old buckets with a lower target
     pub none_behind : AreSourcesKilled arrays index → 0 < interval_width (length arrays.current) → (k target : ℕ)
         → k < length arrays.linked → target < index → Meets (length arrays.linked) k (length arrays.current) target
         → HasNoneFrom hash bound (pairs_in (bucket_at arrays.linked k))
@@ -91,7 +91,7 @@ module _ {K V : Type 0} (hash : K → ℕ) where
               ]) never homes
         ]
 
-  -- what a cursor on its way has done
+  -- what a cursor has done so far
   pub record HasPassed (old : ArraysView K V) (start index : ℕ) (now : ArraysView K V) (at : Place) : Type 0 where
     pub placed : ArePlaced hash now
     pub kept : KeepsArrays old now
@@ -118,14 +118,14 @@ module _ {K V : Type 0} (hash : K → ℕ) where
     none = all_permuted _ (keeps_pairs now next kept.keeps) p.none;
   }
 
-  -- a bucket that is there stays there
+  -- a bucket that exists still exists
   still_within : (before now : ArraysView K V) (len index : ℕ) → KeepsArrays before now → len ≡ length before.current → index < len
       → index < length now.current
   still_within before now len index kept is within =
       let same = kept.current_len in
       omega (arith, within, is, same)
 
-  -- the bucket at the index is empty, and nothing of it is in the old buckets
+  -- the bucket at the index is empty, and no pair of it is in the old buckets
   pub passes_at : (old before now : ArraysView K V) (start index len : ℕ) (at next : Place) (b : BucketView K V)
       → HasPassed old start index before at → ArePlaced hash now → KeepsArrays before now
       → len ≡ length before.current → index < len → AreSourcesKilled now index → b ≡ bucket_on now Current index → IsEnd b at next
@@ -197,7 +197,7 @@ module _ {K V : Type 0} (hash : K → ℕ) where
         subst (HasNoneFrom hash (bound_of (length old.current) start)) (sym (no_map now law (omega (arith, none)))) tt
   ]
 
-  -- what is told from an earlier hash on is told from a later one on
+  -- what holds from an earlier hash on holds from a later one on
   pub from_later : (low lower : ℕ) → lower ≤ low → (ps : List (K × V)) → HasNoneFrom hash lower ps → HasNoneFrom hash low ps
   from_later low lower less ps h = each_implies _ (λ pair below. omega (arith, less, below)) h
 

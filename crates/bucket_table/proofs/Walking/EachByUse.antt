@@ -1,4 +1,4 @@
--- The pairs of a cache by use are its pairs in another order.
+-- The pairs of a cache in order of use are its pairs in another order.
 use Rattle.bucket_table.proofs.Words.{ArraysView, BucketView, IsPermutation, IsPermutation-append_left, IsPermutation-cons}
 use Rattle.bucket_table.proofs.Words.{IsPermutation-map, IsPermutation-refl, IsPermutation-trans, List, None, Slot, [], ap, arith}
 use Rattle.bucket_table.proofs.Words.{cases_Bool, cases_eq, cases_lt, eq-eqb, false, false≢true, flattened, free, get_or, inl, inr}
@@ -21,7 +21,7 @@ use Rattle.bucket_table.specs.Walking.ByUse.{all_by_use, arrays_by_use}
 use Rattle.bucket_table.proofs.Map.LookUps.{pairs_are}
 use Rattle.bucket_table.proofs.Walking.Filters.{IsPermutation-filter, IsPermutation-filter_map}
 
--- numbers in a row are each once
+-- consecutive numbers occur once each
 
 not_in_range : (slot from len : ℕ) → slot < from → is_listed (range_with_len from len) slot ≡ false
 not_in_range slot from zero before = refl
@@ -40,7 +40,7 @@ in_range len slot below =
     list_any_at _ (range_with_len 0 len) slot 0 (omega (arith, length-range_with_len 0 len))
     (eq-eqb slot (get_or (range_with_len 0 len) slot 0) (omega (arith, get_or-range_with_len 0 len slot 0 below)))
 
--- each slot once is the same slots
+-- keeping each slot once keeps the same slots
 
 pub other_listed : (order : List ℕ) (slot other : ℕ) → slot ≢ other → is_listed (order_without order other) slot ≡ is_listed order slot
 other_listed order slot other apart =
@@ -58,7 +58,7 @@ in_use len slot listed below =
     once_lists (listed ++ range_with_len 0 len) slot ∙ list_any-append _ listed (range_with_len 0 len)
     ∙ or_right (is_listed listed slot) (is_listed (range_with_len 0 len) slot) (in_range len slot below)
 
--- a slot that is listed may stand first
+-- a slot that is listed may come first
 
 touched_again : (order : List ℕ) (slot : ℕ) → order_without (slot ∷ order_without order slot) slot ≡ order_without order slot
 touched_again order slot =
@@ -102,7 +102,7 @@ module _ {K V : Type 0} where
     pairs_at-permutation : (slots others : List ℕ) → IsPermutation slots others → IsPermutation (pairs_at slots) (pairs_at others)
     pairs_at-permutation slots others moved = IsPermutation-filter_map live_pair _ _ (IsPermutation-map (slot_at own) slots others moved)
 
-    -- a slot that isn't in use lies past the end
+    -- a slot that isn't in the order of use is past the end
     past_end : (listed : List ℕ) (slot : ℕ) → is_listed (slots_by_use (length own) listed) slot ≡ false
         → live_pair (slot_at own slot) ≡ None
     past_end listed slot absent = elim (cases_lt slot (length own)) [
@@ -134,7 +134,7 @@ module _ {K V : Type 0} where
   buckets_by_use [] = IsPermutation-refl []
   buckets_by_use (bucket ∷ buckets) = IsPermutation-append _ _ _ _ (bucket_by_use bucket) (buckets_by_use buckets)
 
-  -- the pairs by use are all pairs, each once
+  -- the pairs in order of use are all pairs, each once
   pub each_by_use : (arrays : ArraysView K V) → IsPermutation (pairs_of arrays) (arrays_by_use arrays)
   each_by_use arrays =
       rw (pairs_are arrays) (IsPermutation-append _ _ _ _ (buckets_by_use arrays.current) (buckets_by_use arrays.linked))

@@ -1,4 +1,4 @@
--- A function called with each pair of an array, bucket by bucket.
+-- Calls of a function with each pair of an array, bucket by bucket.
 use Rattle.bucket_table.proofs.Words.{BucketView, List, [], ap, append-nil, bucket_at, empty_bucket, length, pairs_in, subst, sym, take, ℕ}
 use Rattle.bucket_table.proofs.Words.{◌++◌, ◌+◌, ◌<◌, ◌∙◌, ◌∷◌, ◌≡◌}
 use Rattle.std.specs.Borrow.{Bor}
@@ -21,7 +21,7 @@ module _ {K V : Type 0} where
         → CallsEach step first others last
     calls_same first last pairs others same calls = subst (λ ps. CallsEach step first ps last) same calls
 
-    -- one bucket more of an array
+    -- one more bucket of an array
     pub calls_more : (first now next : S) (bs : List (BucketView K V)) (i : ℕ) (b : BucketView K V) → i < length bs → b ≡ bucket_at bs i
         → CallsEach step first (pairs_in_all (take i bs)) now → CallsEach step now (pairs_in b) next
         → CallsEach step first (pairs_in_all (take (i + 1) bs)) next

@@ -1,4 +1,4 @@
--- What a step of an extraction asks for, and what it leaves.
+-- Which pair a step of an extraction calls the function with, and what it leaves.
 use Rattle.bucket_table.proofs.Words.{ArraysView, Bool, BucketView, IsEquivalence, IsOneMap, List, None, Option, Place, Some, [], ap}
 use Rattle.bucket_table.proofs.Words.{append-nil, append_assoc, arith, bucket_at, false, inl, inr, length, pairs_of, refl, same_Some, subst}
 use Rattle.bucket_table.proofs.Words.{sym, true, ℕ, ◌++◌, ◌<◌, ◌∙◌, ◌∷◌, ◌≡◌, ◌≢◌, ◌⊎◌}
@@ -15,7 +15,7 @@ use Rattle.bucket_table.proofs.Walking.Leaving.{all_left_at, all_left_both, all_
 use Rattle.bucket_table.proofs.Walking.RetainingTable.{left_ahead, left_behind, one_map_losing}
 
 module _ {K V : Type 0} where
-  -- what became of a pair, by what is handed out
+  -- what happened to a pair, by what is returned
   abbrev Outcome : ℕ → Bool → K × V → List (K × V) → Option (K × V) → Type 0
   Outcome kind answer later stay picked =
       ((answer ≡ false) × (stay ≡ later ∷ []) × (picked ≡ None)) ⊎ ((answer ≡ true) × (stay ≡ []) × (kind ≢ INDEX → picked ≡ Some later))
@@ -32,7 +32,7 @@ module _ {K V : Type 0} where
   picked_by {later = later} {pair = pair} frees (inr (is, gone, out)) = (is, gone, sym (same_Some pair later (out frees)))
 
 module _ {S K V : Type 0} (step : S → Bor K → MutBor V → Bool → MutBor V → S → Type 0) (kind : ℕ) where
-  -- the function refused the pairs that are no more left, and they are there as it left them
+  -- the function didn't pick the pairs that are no longer left, and they are there as it left them
   pub record IsExtracting (first : S) (old : ExtractView K V) (state : S) (now : ExtractView K V) : Type 0 where
     pub kept : List (K × V)
     pub asked : (picked : Option (K × V)) (last : S) (more rest : List (K × V))
@@ -70,13 +70,13 @@ module _ {S K V : Type 0} (step : S → Bor K → MutBor V → Bool → MutBor V
     linked = left_behind kind 0 old.arrays.current old.arrays.linked now.current now.linked amid.others.current_len amid.left;
   })
 
-  -- the first pair is refused, and then the others are asked for
+  -- the first pair isn't picked, and then the function is called with the others
   one_more : {state last final : S} {pair later : K × V} {left more rest : List (K × V)} {picked : Option (K × V)}
       → AsksPair step state pair false last later → ExtractsNext (AsksPair step) last left picked final more rest
       → ExtractsNext (AsksPair step) state (pair ∷ left) picked final (later ∷ more) rest
   one_more {last = last} {later = later} {more = more} call extracts = (false, last, later, call, (more, extracts, refl))
 
-  -- a pair was asked for: what was behind it is left
+  -- the function was called with a pair: what was after it is left
   pub after : {state last : S} {pair : K × V} {now new : ArraysView K V} {index : ℕ} {at to : Place} {picked : Option (K × V)}
       → index < length (row_of now) → ExtractsAt step kind state pair now index at picked new to last
       → pairs_from (row_of new) index to ≡ pairs_from (row_of now) index at
@@ -127,7 +127,7 @@ module _ {S K V : Type 0} (step : S → Bor K → MutBor V → Bool → MutBor V
             → length (pairs_from (row_of new) index to) < length (pairs_from (row_of now) from_index from)
         fewer ask = omega (arith, ap length moves.first, ap length (after moves.within ask))
 
-        -- the pair is refused
+        -- the pair isn't picked
         pub refuses : Asked last new to None
             → IsExtracting first old last (record { arrays = new; left = pairs_from (row_of new) index to })
         refuses ask =

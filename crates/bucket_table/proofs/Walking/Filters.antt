@@ -18,7 +18,7 @@ module _ {B : Type 0} where
   under_option None us vs h = h
 
 module _ {A B : Type 0} (p : A → Option B) where
-  -- what y gives for the element at i, and what that element gives in front for y
+  -- what y gives for the element at i, and what that element gives first for y
   moved : (l : List A) (i : ℕ) (y d : A) → i < length l
       → IsPermutation (cons_option (p (get_or l i d)) (filter_map p (set l i y))) (cons_option (p y) (filter_map p l))
   moved [] i y d h = absurd (omega arith)
@@ -40,7 +40,7 @@ module _ {A B : Type 0} (p : A → Option B) where
       subst (λ (t : List A). IsPermutation (filter_map p (z ∷ l)) (cons_option (p z) (filter_map p t)))
       (sym same) (under_option (p z) _ _ (swapped l i j (omega arith) (omega arith)))
 
-  -- what a function gives of a list in another order is the same in another order
+  -- what a function gives for a list in another order is the same in another order
   pub IsPermutation-filter_map : (xs ys : List A) → IsPermutation xs ys → IsPermutation (filter_map p xs) (filter_map p ys)
   IsPermutation-filter_map xs ys h = IsPermutation-keeps xs (λ (l : List A). IsPermutation (filter_map p xs) (filter_map p l))
       (IsPermutation-refl (filter_map p xs)) (λ l i j below less so_far. IsPermutation-trans _ _ _

@@ -55,7 +55,7 @@ module _ {K V : Type 0} where
   first_of_entry e = e.0
 
 module _ {K V : Type 0} (hash : K → ℕ) where
-  -- the bucket's entries are all with their home there, and the others stand elsewhere; another bucket changes those alone
+  -- the bucket's entries all have their home there, and the others are elsewhere; replacing the bucket changes only its entries
   pub record SplitsAt (arrays : ArraysView K V) (i : ℕ) : Type 0 where
     pub rest : List ((K × V) × ℕ)
     pub before : IsPermutation (entries_of arrays) (entries_in (bucket_on arrays Current i) ++ rest)
@@ -113,7 +113,7 @@ module _ {K V : Type 0} (hash : K → ℕ) where
     rest_elsewhere = each_map (λ pair. inside pair ≡ false) first_of_entry _
         (each_implies _ (λ e h. is_out _ _ (hash e.0.0) (λ low high. h (low, high))) s.elsewhere)
 
-    -- a filter sees the bucket's pairs and the others
+    -- a filter selects from the bucket's pairs and from the others
     filtered : (p : K × V → Bool) → IsPermutation (filter p (pairs_of arrays))
         (filter p (pairs_in (bucket_on arrays Current i)) ++ filter p rest_pairs)
     filtered p = subst (IsPermutation (filter p (pairs_of arrays))) (filter-append p (pairs_in (bucket_on arrays Current i)) rest_pairs)
@@ -133,7 +133,7 @@ module _ {K V : Type 0} (hash : K → ℕ) where
         let all = filter_all outside rest_pairs (each_implies _ (λ p e. not_from_false (inside p) e) rest_elsewhere) in
         subst (IsPermutation (filter outside (pairs_of arrays))) (λ j. none j ++ all j) (filtered outside)
 
-    -- another bucket there has its pairs in their place
+    -- if the bucket is replaced, its pairs are replaced
     pub changed_there : (b : BucketView K V) → IsPermutation
         (pairs_in b ++ filter outside (pairs_of arrays)) (pairs_of (arrays_with arrays Current i b))
     changed_there b =

@@ -1,4 +1,4 @@
--- What is left of buckets where live pairs are changed or taken one after another.
+-- What is left of buckets after live pairs are changed or taken out one by one.
 use Rattle.bucket_table.proofs.Words.{All, All-from_recursion, ArraysView, Bool, BucketView, IsDistinct, IsDistinct-IsPermutation}
 use Rattle.bucket_table.proofs.Words.{IsEntryHome, IsEquivalence, IsHome, IsOneMap, IsPermutation, IsPermutation-append_left}
 use Rattle.bucket_table.proofs.Words.{IsPermutation-append_right, IsPermutation-map, IsPermutation-refl, IsPermutation-trans, List, MarksBy}
@@ -46,12 +46,12 @@ module _ {K V : Type 0} where
     alive = two.alive ∙ one.alive;
   }
 
-  -- an entry goes
+  -- an entry is removed
   pub keys_less : (s t : BucketView K V) (p : K × V) → t.killed ≡ s.killed
       → ((byte : ℕ) × IsPermutation (entries_in s) ((p, byte) ∷ entries_in t)) → LosesKeys s t
   keys_less s t p alive (byte, out) = record { gone = (p.0, byte) ∷ []; keys = IsPermutation-map key_of _ _ out; alive = alive }
 
-  -- some entries go
+  -- some entries are removed
   pub keys_parted : (s t : BucketView K V) (gone : List ((K × V) × ℕ)) → t.killed ≡ s.killed
       → IsPermutation (entries_in s) (gone ++ entries_in t) → LosesKeys s t
   keys_parted s t gone alive parts = record {
@@ -60,7 +60,7 @@ module _ {K V : Type 0} where
     alive = alive;
   }
 
-  -- a value is another
+  -- a value is replaced
   pub keys_valued : (s : BucketView K V) (at : Place) (p : K × V) (value : V) → live_pair (slot_in s at) ≡ Some p
       → LosesKeys s (bucket_with_value s at value)
   keys_valued s at p value here =
@@ -91,7 +91,7 @@ module _ {K V : Type 0} where
       All-from_recursion (IsEntryHome hash n index) (entries_in t)
       (each_implies _ (λ e h. record { home = h.0; own_byte = h.1 }) of_left)
 
-  -- and the map stays one
+  -- and the map is still one
   pub one_map_losing_on : (eq : K → K → Bool) → IsEquivalence eq → (hash : K → ℕ) (a : ArraysView K V) (side : Side) (i : ℕ)
       (left : BucketView K V) → IsOneMap eq hash a → IsChangeable a side i → LosesKeys (bucket_on a side i) left
       → IsOneMap eq hash (arrays_with a side i left)
@@ -119,7 +119,7 @@ module _ {K V : Type 0} where
       }
 
 module _ {K V : Type 0} (kind epoch : ℕ) where
-  -- some keys are gone, and no mark is new but the epoch's
+  -- some keys are removed, and only tombstones of the epoch are new
   abbrev Gone : BucketView K V → BucketView K V → Type 0
   Gone s t = LosesKeys s t × MarksBy epoch (marks_in s) (marks_in t)
 
@@ -129,7 +129,7 @@ module _ {K V : Type 0} (kind epoch : ℕ) where
     by-trans epoch (marks_in s) (marks_in t) (marks_in u) first.1 second.1,
   )
 
-  -- a pair is taken out, or marked
+  -- a pair is taken out, or becomes a tombstone
   pub taken_out : (index : Bool) (s : BucketView K V) (at : Place) (p : K × V) → live_pair (slot_in s at) ≡ Some p
       → ((if index then slots_marked s at epoch else slots_without s at).killed ≡ s.killed)
       × ((byte : ℕ) × IsPermutation (entries_in s) ((p, byte) ∷ entries_in (if index then slots_marked s at epoch else slots_without s at)))
@@ -147,7 +147,7 @@ module _ {K V : Type 0} (kind epoch : ℕ) where
       let out = taken_out index s at p here in
       (keys_less s _ p out.0 out.1, marks_taken index s at p here)
 
-  -- pairs that are changed or taken one after another leave it so
+  -- so it is after pairs are changed or taken out one by one
   pub gone_changed : (changes : List (Place × Option V)) (s t : BucketView K V) → ChangesPairs kind epoch changes s t → Gone s t
   gone_changed [] s t same = rw same (keys_same s, by-no_new epoch (marks_in s) (marks_in s) (no_new-refl (marks_in s)))
   gone_changed ((at, Some value) ∷ changes) s t (alive, rest) =
@@ -194,7 +194,7 @@ module _ {K V : Type 0} (kind epoch : ℕ) where
     each = λ i. left_both (bucket_at bs i) (bucket_at cs i) (bucket_at ds i) (first.each i) (second.each i);
   }
 
-  -- one bucket is left so
+  -- what is left of one bucket
   pub all_left_at : (bs : List (BucketView K V)) (i : ℕ) (left : BucketView K V) → i < length bs → IsLeftOf kind epoch (bucket_at bs i) left
       → AreLeftOf kind epoch bs (set bs i left)
   all_left_at bs i left within one = record {

@@ -1,4 +1,4 @@
--- How many pairs a walk is lent, and which it isn't.
+-- How many pairs a walk is lent, and which ones it isn't.
 use Rattle.bucket_table.proofs.Words.{Bool, BucketView, IsLength, List, [], and_from, ap, arith, bound_of, cases_Bool, cases_lt, false}
 use Rattle.bucket_table.proofs.Words.{filter, filter_agree, has_home_in, inl, inr, interval_width, le-leb, leb-true, length}
 use Rattle.bucket_table.proofs.Words.{length_permutation, mul-le-mul_right, nat_le, not, not_from_false, not_from_true, pairs_in, refl}
@@ -11,13 +11,13 @@ use Rattle.bucket_table.proofs.Walking.Bounds.{all_hashes, is_in, is_out, next_m
 use Rattle.bucket_table.proofs.Walking.Each.{each}
 use Rattle.bucket_table.proofs.Walking.Filters.{filter_all, filter_filter, filter_none}
 
--- how many pairs were lent
+-- the number of pairs that were lent
 abbrev pub lent_len : {K V : Type 0} → List (Visited (BucketView K V)) → ℕ
 lent_len [] = 0
 lent_len (visit ∷ visits) = length (pairs_in visit.lent) + lent_len visits
 
 module _ {K V : Type 0} (hash : K → ℕ) (len : ℕ) where
-  -- the hash is one of bucket i's or of a later one's
+  -- the hash is one of bucket i or of a later bucket
   abbrev pub is_from : ℕ → K × V → Bool
   is_from i p = nat_le (bound_of len i) (hash p.0)
 
@@ -60,7 +60,7 @@ module _ {K V : Type 0} (hash : K → ℕ) (len : ℕ) where
       ∙ filter_agree (λ p. is_from i p && not (late p)) (has_home_in hash len i (i + 1)) (from_here i) ps) in
       omega (arith, both, first, second)
 
-  -- what was lent, and what comes after it
+  -- the pairs that were lent, and those after them
   pub counted_from : (i : ℕ) (ps : List (K × V)) (visits : List (Visited (BucketView K V))) → AreLent hash len ps i visits
       → lent_len visits + length (filter (is_from (i + length visits)) ps) ≡ length (filter (is_from i) ps)
   counted_from i ps [] lent =
@@ -75,7 +75,7 @@ module _ {K V : Type 0} (hash : K → ℕ) (len : ℕ) where
       let same = ap (λ (k : ℕ). length (filter (is_from k) ps)) e in
       omega (arith, rest, here, own, same)
 
-  -- past the buckets from the first on there are those with later hashes
+  -- the pairs outside the first buckets are those with later hashes
   pub outside_is_from : (m : ℕ) (p : K × V) → not (has_home_in hash len 0 (0 + m) p) ≡ is_from m p
   outside_is_from m p =
       let e : 0 + m ≡ m = omega arith in

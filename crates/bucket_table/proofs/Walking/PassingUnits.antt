@@ -16,7 +16,7 @@ use Rattle.std.specs.Prelude.{IsErrAnd}
 use Rattle.std.specs.Result.{result_map_both}
 
 module _ {K V : Type 0} where
-  -- what a cursor on its way has worked
+  -- the units that a cursor has worked so far
   pub record HasWorked (old : ArraysView K V) (start index : ℕ) (now : ArraysView K V) : Type 0 where
     pub order : start ≤ index
     pub within : start < index → index ≤ length old.current
@@ -37,7 +37,7 @@ module _ {K V : Type 0} where
         alone = λ none. refl;
       }
 
-  -- a bucket is made ready, or refused
+  -- a bucket is made ready, or allocation fails
   module _ (old before now : ArraysView K V) (start index : ℕ) (w : HasWorked old start index before)
       (kept : KeepsArrays before now) (unit : WorksUnits 1 (λ home. home ≡ index) before now)
       (waits : length before.linked ≡ 0 → now ≡ before) where
@@ -98,7 +98,7 @@ module _ {K V : Type 0} where
               (λ on. (unit.stands on).len) wants);
         }
 
-  -- an array that stands has hashes for each bucket
+  -- an array that exists has hashes for each bucket
   pub begins_wide : (old : ArraysView K V) (len start bound : ℕ) → len ≡ length old.current → (0 < len → IsLength len)
       → (0 < interval_width (length old.current) → IsInInterval (length old.current) start bound)
       → 0 < length old.current → IsInInterval (length old.current) start bound
@@ -143,7 +143,7 @@ module _ {K V : Type 0} where
         wanted = λ lacks. absurd cc;
       }
 
-  -- where there is no array, or the hash is past all, none is passed
+  -- if there is no array, or the hash is past all, no bucket is passed
   pub passes_nowhere : (arrays : ArraysView K V) (bound : ℕ) → length arrays.current ≡ 0
       → Passes (λ (i : ℕ). i) bound arrays (Err Nothing) arrays
   passes_nowhere arrays bound none = passes_all arrays arrays 0 0 bound (worked_none arrays 0) (omega (arith, none))
@@ -156,7 +156,7 @@ module _ {K V : Type 0} where
       passes_all arrays arrays n n bound (worked_none arrays n) (omega arith)
       (λ some. (omega (arith, all_hashes n (long some), is), omega (arith, all_hashes n (long some), is, wide n (long some))))
 
--- without an old array it isn't refused
+-- without an old array it doesn't fail
 pub passes_alone : {K V A : Type 0} (index_of : A → ℕ) (r : Result A Missing) (bound : ℕ) (old new : ArraysView K V)
     → Passes index_of bound old r new → length old.linked ≡ 0 → IsErrAnd r (λ missing. missing ≡ Memory) → ⊥
 passes_alone {K} {V} index_of r bound old new p none lacks =
@@ -164,7 +164,7 @@ passes_alone {K} {V} index_of r bound old new p none lacks =
     let same = ap (λ (a : ArraysView K V). length a.linked) (p.alone none) in
     absurd (omega (arith, within, same, none))
 
--- the same answer, with a view of what was found
+-- the same result, with another view of what was found
 module _ {K V A B : Type 0} (f : A → B) (g : B → ℕ) where
   passes_viewed : (r : Result A Missing) (bound : ℕ) (old new : ArraysView K V)
       → Passes (λ (a : A). g (f a)) bound old r new → Passes g bound old (result_map_both f (λ missing. missing) r) new

@@ -1,4 +1,4 @@
--- A bucket that is read is as if it came back the same.
+-- A bucket that is read is like one that is returned unchanged.
 use Rattle.bucket_table.proofs.Words.{ArraysView, Bool, BucketView, Current, IsLocked, IsPermutation-refl, TableView, [], bucket_on, length}
 use Rattle.bucket_table.proofs.Words.{reading, refl, subst, sym, ℕ, ◌<◌, ◌≡◌}
 use Rattle.bucket_table.specs.Walking.Walks.{IsKeptBy, KeepsBuckets, keys_in}

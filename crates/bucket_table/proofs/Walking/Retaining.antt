@@ -1,4 +1,4 @@
--- A bucket is gone through by a pointer, and what a test refuses is taken out.
+-- A pointer goes through a bucket, and the pairs for which a test returns false are taken out.
 use Rattle.bucket_table.proofs.Words.{AllByRecursion, Bool, BucketView, IsPermutation, IsPermutation-append_right, IsPermutation-map}
 use Rattle.bucket_table.proofs.Words.{IsPermutation-refl, IsPermutation-trans, List, MovesToNext, Place, [], ap, arith, cond, entries_in}
 use Rattle.bucket_table.proofs.Words.{false, false≢true, filter, inl, inr, is_live, length, length-append, length-map, length_permutation}
@@ -37,7 +37,7 @@ module _ {K V : Type 0} (test : K × V → Bool) where
   front_more p ps e = ap (λ b. length (cond b (p ∷ filter refuses ps) (filter refuses ps))) (not_from_false (test p) e) ∙ omega arith
 
 module _ {K V : Type 0} (IsTest : (K × V → Bool) → Type 0) where
-  -- all that a test refuses is ahead, and what is gone it refused
+  -- the remaining pairs for which a test returns false are ahead, and it returns false for each removed pair
   pub record IsRetaining (old now : BucketView K V) (at : Place) : Type 0 where
     pub gone : List ((K × V) × ℕ)
     pub parts : IsPermutation (entries_in old) (gone ++ entries_in now)
@@ -103,7 +103,7 @@ module _ {K V : Type 0} (IsTest : (K × V → Bool) → Type 0) where
   steps old now left at next after m (inr (refuses_it, alive, out, ahead)) r =
       (takes old now left at next after m refuses_it alive out ahead r, omega (arith, ap length m.ahead, ap length ahead))
 
-  -- as many pairs as are gone
+  -- the number of removed pairs
   pub fewer : (old now : BucketView K V) (at : Place) (r : IsRetaining old now at)
       → length (pairs_in old) ≡ length r.gone + length (pairs_in now)
   fewer old now at r =
@@ -128,7 +128,7 @@ module _ {K V : Type 0} (IsTest : (K × V → Bool) → Type 0) where
         unchanged = λ none. r.unchanged (omega (arith, less, is, none));
       }
 
-  -- a test that refuses all leaves none, and counts all
+  -- a test that is always false leaves none, and all are counted
   pub retains_none : (old new : BucketView K V) (count : ℕ) → IsTest (λ pair. false) → Retains IsTest old new count
       → (pairs_in new ≡ []) × (count ≡ min (length (pairs_in old)) (2 ^ 64 - 1))
   retains_none old new count means r =

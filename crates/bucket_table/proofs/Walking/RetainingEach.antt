@@ -1,4 +1,4 @@
--- A closure is asked for each pair of a bucket, with the pair's value lent.
+-- A closure is called with each pair of a bucket, with the value lent.
 use Rattle.bucket_table.proofs.Words.{Bool, BucketView, List, MovesToNext, Option, Place, [], ap, append-nil, append_assoc, arith, false}
 use Rattle.bucket_table.proofs.Words.{if◌then◌else◌, inl, inr, length, length-append, null_place, pairs_ahead, pairs_in, refl, subst, sym}
 use Rattle.bucket_table.proofs.Words.{true, ℕ, ◌++◌, ◌+◌, ◌∙◌, ◌∷◌, ◌≡◌, ◌≤◌, ◌⊎◌}
@@ -35,7 +35,7 @@ module _ {S K V : Type 0} (step : S → Bor K → MutBor V → Bool → MutBor V
   if_length true p kept = omega arith
   if_length false p kept = omega arith
 
-  -- no pair comes
+  -- there are no more pairs than before
   pub asked_fewer : (first last : S) (xs left : List (K × V)) → RetainsEach step first xs left last → length left ≤ length xs
   asked_fewer first last [] left (none, same) = omega (arith, ap length none)
   asked_fewer first last (x ∷ xs) left (own, before, after, answer, mid, kept, is, call, left_is, rest) =
@@ -46,7 +46,7 @@ module _ {S K V : Type 0} (step : S → Bor K → MutBor V → Bool → MutBor V
   stay_by answer p later stay later_is (inl (is, there, more)) = rw is (there ∙ ap (λ q. q ∷ []) later_is)
   stay_by answer p later stay later_is (inr (is, there, more)) = rw is there
 
-  -- a pair alone
+  -- a single pair
   one_asked : (kind : ℕ) (first last : S) (pair : K × V) (old new : BucketView K V) (at to : Place) (picked : Option (K × V))
       (r : AsksAt step kind true first pair old at picked new to last) → RetainsEach step first (pair ∷ []) r.stay last
   one_asked kind first last pair old new at to picked r =
@@ -63,7 +63,7 @@ module _ {S K V : Type 0} (step : S → Bor K → MutBor V → Bool → MutBor V
         (refl, refl),
       )
 
-  -- what is no more ahead was asked for
+  -- the closure was called with the pairs that are no longer ahead
   pub record IsAsking (first : S) (old : BucketView K V) (state : S) (now : BucketView K V) (at : Place) : Type 0 where
     pub done : List (K × V)
     pub left : List (K × V)

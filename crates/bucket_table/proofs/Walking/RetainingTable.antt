@@ -1,4 +1,4 @@
--- A closure is asked for each pair of a table, bucket after bucket.
+-- A closure is called with each pair of a table, bucket after bucket.
 use Rattle.bucket_table.proofs.Words.{ArraysView, Bool, BucketView, IsEquivalence, IsOneMap, List, MarksBy, [], ap, append-nil, arith}
 use Rattle.bucket_table.proofs.Words.{bucket_at, by-no_new, cases_lt, empty_bucket, inl, inr, length, length-append, marks_in, marks_of}
 use Rattle.bucket_table.proofs.Words.{min, no_new-refl, pairs_in, pairs_of, refl, set, subst, sym, take, ℕ, ◌++◌, ◌+◌, ◌-◌, ◌<◌, ◌^◌, ◌∙◌}
@@ -78,7 +78,7 @@ module _ {S K V : Type 0} (step : S → Bor K → MutBor V → Bool → MutBor V
         new_is = sym (row_with-same now index within);
       }
 
-  -- the buckets of the row below an index were gone through, and the others are as they were
+  -- the buckets of the row below an index are done, and the others are as they were
   pub record IsThrough (first : S) (old : ArraysView K V) (state : S) (now : ArraysView K V) (index count : ℕ) : Type 0 where
     pub asked : RetainsEach step first (pairs_in_all (take index (row_of old))) (pairs_in_all (take index (row_of now))) state
     pub rest : drop index (row_of now) ≡ drop index (row_of old)
@@ -142,7 +142,7 @@ module _ {S K V : Type 0} (step : S → Bor K → MutBor V → Bool → MutBor V
   passes {count = count} within none amid =
       goes_on {count = count} {sum = count} within (retains_none within none) (omega (arith, amid.counted)) amid
 
-  -- in the end the whole row was
+  -- in the end the whole row is done
   pub record IsRetained (first : S) (old new : ArraysView K V) (count : ℕ) (last : S) : Type 0 where
     pub asked : RetainsEach step first (pairs_of old) (pairs_of new) last
     pub counted : count ≡ gone_len (pairs_of old) (pairs_of new)

@@ -1,4 +1,4 @@
--- The buckets of both arrays in a row: where one stands, and the pairs behind a place.
+-- The buckets of both arrays in a row: which array one is in, and the pairs after a place.
 use Rattle.bucket_table.proofs.Words.{AreArrays, ArraysView, BucketView, Current, List, MovesToNext, Old, Option, Place, Side, Slot, Some}
 use Rattle.bucket_table.proofs.Words.{[], ap, append_assoc, arith, arrays_with, bucket_at, bucket_on, buckets_on, cases_lt, empty_bucket}
 use Rattle.bucket_table.proofs.Words.{entries_among, entries_in, entries_of, flattened, get_or, get_or-set_same, inl, inr, length}
@@ -25,7 +25,7 @@ regrouped : {X : Type 0} (xs ys zs ws : List X) → xs ++ ((ys ++ zs) ++ ws) ≡
 regrouped xs ys zs ws = ap (λ l. xs ++ l) (append_assoc ys zs ws) ∙ sym (append_assoc xs ys (zs ++ ws))
 
 module _ {K V : Type 0} where
-  -- the array in which a bucket of the row stands
+  -- the array that has the bucket at an index of the row
   pub record StandsOn (a : ArraysView K V) (index : ℕ) : Type 0 where
     pub side : Side
     pub own : ℕ
@@ -59,7 +59,7 @@ module _ {K V : Type 0} where
     }
   ]
 
-  -- a bucket of the current array stands in the row
+  -- a bucket of the current array is in the row
   pub current_in_row : (a : ArraysView K V) (index : ℕ) → index < length a.current
       → (index < length (row_of a)) × (bucket_at a.current index ≡ bucket_at (row_of a) index)
   current_in_row a index below = (
@@ -67,7 +67,7 @@ module _ {K V : Type 0} where
     sym (get_or_append_left a.current a.linked empty_bucket index below),
   )
 
-  -- and one of the old array behind them
+  -- and one of the old array after them
   pub old_in_row : (a : ArraysView K V) (index own : ℕ) → own ≡ index - length a.current → length a.current ≤ index
       → own < length a.linked → (index < length (row_of a)) × (bucket_at a.linked own ≡ bucket_at (row_of a) index)
   old_in_row a index own same past within = (
@@ -87,7 +87,7 @@ module _ {K V : Type 0} where
       let on = stands a index within in
       on.with (bucket_at (row_of a) index) ∙ ap (arrays_with a on.side on.own) (sym on.bucket) ∙ arrays_with-same a on.side on.own
 
-  -- another bucket leaves the shape
+  -- replacing a bucket keeps the shape
   pub shape_with : (a : ArraysView K V) (index : ℕ) (b : BucketView K V) → KeepsShape a (row_with a index b)
   shape_with a index b = elim (cases_lt index (length a.current)) [
     | inl below ↦ rw (with_current a index b below) (record {
@@ -120,7 +120,7 @@ module _ {K V : Type 0} where
   all_joined (x ∷ xs) ys =
       ap (λ ps. pairs_in x ++ ps) (all_joined xs ys) ∙ sym (append_assoc (pairs_in x) (pairs_in_all xs) (pairs_in_all ys))
 
-  -- all pairs stand in the row
+  -- all pairs are in the row
   pub pairs_in_row : (a : ArraysView K V) → pairs_in_all (row_of a) ≡ pairs_of a
   pairs_in_row a = all_joined a.current a.linked ∙ sym (pairs_are a)
 
@@ -130,7 +130,7 @@ module _ {K V : Type 0} where
   pub marks_in_row : (a : ArraysView K V) → marks_among (row_of a) ≡ marks_of a
   marks_in_row a = flat_map-append (λ (b : BucketView K V). marks_in b) a.current a.linked
 
-  -- what is behind a slot of some rows stands at their end
+  -- what is after a slot of some rows is at their end
   rows_behind : (rows : List (List (Slot K V))) (i n : ℕ)
       → (front : List (Slot K V)) × (flattened rows ≡ front ++ (drop n (get_or rows i []) ++ flattened (drop (suc i) rows)))
   rows_behind [] i n = ([], sym (ap (λ (l : List (Slot K V)). l ++ []) (drop-nil n)))
@@ -153,7 +153,7 @@ module _ {K V : Type 0} where
       let r = rows_behind (s.own ∷ s.chain) (suc i) (position_after pos) in
       (live_pairs r.0, ap live_pairs r.1 ∙ filter_map-append live_pair r.0 _)
 
-  -- the pairs ahead of any place are the last of a bucket
+  -- the pairs ahead of any place are the last ones of a bucket
   ahead_last : (s : BucketView K V) (at : Place) → (front : List (K × V)) × (pairs_in s ≡ front ++ pairs_ahead s at)
   ahead_last s at = ahead_of s at.block at.pos
 
@@ -186,7 +186,7 @@ module _ {K V : Type 0} where
     pub none_without : (i : ℕ) (at : Place) → bs ≡ [] → pairs_from bs i at ≡ []
     none_without i at none = none_past i at (omega (arith, ap length none))
 
-    -- from the null pointer of a bucket on all its pairs are left
+    -- from the null pointer of a bucket on, all its pairs are left
     pub all_left : (i : ℕ) → pairs_in_all (drop i bs) ≡ pairs_from bs i null_place
     all_left i =
         elim (cases_lt i (length bs)) [
@@ -197,7 +197,7 @@ module _ {K V : Type 0} where
     module _ (from_index : ℕ) (from : Place) (index : ℕ) (at to : Place) (b : BucketView K V) (is : b ≡ bucket_at bs index)
         (same : pairs_from bs from_index from ≡ pairs_from bs index at)
       where
-        -- where only buckets without a pair ahead were passed, a pointer that moves in a bucket moves to the first pair
+        -- if only buckets without a pair ahead were passed, a pointer that moves in a bucket moves to the first pair
         pub moves_on : index < length bs → MovesToNext b at to → MovesOn bs from_index from b index to
         moves_on within moves =
             let m = subst (λ c. MovesToNext c at to) is moves in
@@ -216,11 +216,11 @@ module _ {K V : Type 0} where
             ∙ ap (λ ps. ps ++ pairs_in_all (drop (index + 1) bs)) end.ahead ∙ all_left (index + 1)
             ∙ ap (λ (p : Place). pairs_from bs (index + 1) p) (sym end.null)
 
-  -- all pairs are behind the start
+  -- all pairs are after the start
   pub begins : (a : ArraysView K V) (at : Place) → at ≡ null_place → pairs_from (row_of a) 0 at ≡ pairs_of a
   begins a at null = ap (pairs_from (row_of a) 0) null ∙ sym (all_left (row_of a) 0) ∙ pairs_in_row a
 
-  -- the pair that a place moves to was the first of what was left
+  -- the pair that a place moves to was the first one left
   pub first_left : (bs : List (BucketView K V)) (index : ℕ) (at : Place) (b : BucketView K V) (to_index : ℕ) (to : Place) (pair : K × V)
       → MovesOn bs index at b to_index to → live_pair (slot_in b to) ≡ Some pair
       → pairs_from bs index at ≡ pair ∷ pairs_from bs to_index to
@@ -238,7 +238,7 @@ module _ {K V : Type 0} where
         ap pairs_in_all (set_split bs i x within) ∙ all_joined (take i bs) (x ∷ drop (suc i) bs)
         ∙ ap (λ n. pairs_in_all (take i bs) ++ (pairs_in x ++ pairs_in_all (drop n bs))) (sym (add-one i))
 
-    -- another bucket with the same pairs ahead leaves what was left
+    -- another bucket with the same pairs ahead leaves the same pairs
     pub same_left : (x : BucketView K V) (at to : Place) → pairs_ahead x to ≡ pairs_ahead (bucket_at bs i) at
         → pairs_from (set bs i x) i to ≡ pairs_from bs i at
     same_left x at to ahead =
@@ -246,7 +246,7 @@ module _ {K V : Type 0} where
         let rest = ap pairs_in_all (drop-set-lt (i + 1) bs i x (omega arith)) in
         λ j. here j ++ rest j
 
-    -- and exchanges a pair for some among all, where it does so among its own
+    -- and it exchanges a pair for some among all, if it does so among its own
     pub exchanges : (x : BucketView K V) (from at : Place) (pair : K × V) (mid front : List (K × V))
         → pairs_ahead (bucket_at bs i) from ≡ pair ∷ pairs_ahead (bucket_at bs i) at
         → ((own : List (K × V)) → pairs_in (bucket_at bs i) ≡ own ++ pair ∷ pairs_ahead (bucket_at bs i) at
@@ -264,7 +264,7 @@ module _ {K V : Type 0} where
         parted x ∙ ap (λ ps. before ++ (ps ++ behind)) (pairs own.0 was) ∙ regrouped before own.0 (mid ++ ahead) behind
         ∙ (λ j. same j ++ append_assoc mid ahead behind j)
 
-  -- an old array has a current one beside it, so without that the row is empty
+  -- an old array has a current one beside it, so without a current one the row is empty
   pub no_row : (a : ArraysView K V) → AreArrays a → (0 < length a.current → ⊥) → row_of a ≡ []
   no_row a law none =
       let past : length a.current ≤ 0 = elim (cases_lt 0 (length a.current)) [ inl some ↦ absurd (none some) | inr past ↦ past ] in

@@ -20,26 +20,26 @@ use Rattle.bucket_table.proofs.Views.SettingsKept.{settings_both, settings_kept,
 use Rattle.bucket_table.proofs.Views.SideChanges.{arrays_with-same}
 use Rattle.bucket_table.proofs.Walking.Sweeping.{IsSweeping, sweep_begins, sweep_ends, sweep_moves, sweep_stops, sweep_visits}
 
--- the hashes that a cursor has before it, and one more
+-- the number of hashes ahead of a cursor, plus one
 abbrev pub hashes_left : ℕ → Result ℕ Missing → ℕ
 hashes_left len (Ok index) = 2 ^ 64 + 1 - bound_of len (index + 1)
 hashes_left len (Err missing) = 0
 
 module _ {K V : Type 0} (IsTest : (K × V → Bool) → Type 0) (hash : K → ℕ) where
-  -- a sweep that is over: all is swept, or for want of memory what is below some bound
+  -- a sweep that is over: all is swept, or, if allocation failed, the pairs below some bound
   abbrev pub IsOver : ArraysView K V → ArraysView K V → ℕ → Missing → Type 0
   IsOver old now count Nothing = (test : K × V → Bool) → IsTest test → IsSwept test (pairs_of old) (pairs_of now) count
   IsOver old now count Memory =
       (bound : ℕ) × ((test : K × V → Bool) → IsTest test → IsSweptBelow hash bound test (pairs_of old) (pairs_of now))
 
-  -- where a sweep stands between two buckets
+  -- the state of a sweep between two buckets
   abbrev pub SweepsOn : ArraysView K V → ArraysView K V → ℕ → Result ℕ Missing → Type 0
   SweepsOn old now count (Ok index) = IsLocked now Current index × IsSweeping IsTest hash (pairs_of old) (pairs_of now)
       (bound_of (length now.current) index) (bound_of (length now.current) (index + 1)) count
       × (pairs_in (bucket_on now Current index) ≢ [])
   SweepsOn old now count (Err missing) = IsOver old now count missing
 
-  -- a sweep that has come to a bound, or begins, goes on where a cursor does
+  -- a sweep that has come to a bound, or begins, continues where a cursor does
   sweep_goes : (old now next : ArraysView K V) (count high : ℕ) (found : Result ℕ Missing) (at : Place)
       → IsSweeping IsTest hash (pairs_of old) (pairs_of now) high high count
       → IsPermutation (pairs_of now) (pairs_of next) → IsFoundFrom hash high found next at
@@ -68,7 +68,7 @@ module _ {K V : Type 0} (IsTest : (K × V → Bool) → Type 0) (hash : K → �
       (taken_there hash now index split) (changed_there hash now index split r.left) r.retains counted)
 
 module _ {K V : Type 0} (IsTest : (K × V → Bool) → Type 0) where
-  -- without an old array nothing changes as long as no pair is refused
+  -- without an old array nothing changes as long as no pair is removed
   course_alone : {kind epoch : ℕ} (now visited next : ArraysView K V) (index taken : ℕ) (place : Result ℕ Missing)
       → pairs_in (bucket_on now Current index) ≢ [] → RetainsAt IsTest kind epoch now index taken visited
       → ShrinksThenPasses (λ to. to) Current index visited place next
@@ -82,7 +82,7 @@ module _ {K V : Type 0} (IsTest : (K × V → Bool) → Type 0) where
       d.passes.alone beside ∙ between ∙ same
 
 module _ {K V H : Type 0} (IsTest : (K × V → Bool) → Type 0) (hash : H → K → ℕ) (kind epoch : ℕ) (old : TableView K V H) where
-  -- where a table's sweep stands between two buckets
+  -- the state of a table's sweep between two buckets
   pub record SweepStands (now : TableView K V H) (count : ℕ) (place : Result ℕ Missing) : Type 0 where
     pub settings : KeepsSettings old now
     pub on : SweepsOn IsTest (hash old.hasher) old.arrays now.arrays count place
@@ -156,7 +156,7 @@ module _ {K V H : Type 0} (IsTest : (K × V → Bool) → Type 0) (hash : H → 
             (by-no_new epoch (marks_of visited.arrays) (marks_of next.arrays) none_new);
       }
 
-  -- fewer hashes are left then
+  -- then fewer hashes are left
   pub fewer_hashes : {now : TableView K V H} {visited : ArraysView K V} (next : ArraysView K V) {count taken index : ℕ}
       {here : Result ℕ Missing} (place : Result ℕ Missing) → SweepStands now count here → here ≡ Ok index
       → (0 < length now.arrays.current → IsLength (length now.arrays.current))

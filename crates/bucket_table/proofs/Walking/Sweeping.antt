@@ -1,4 +1,4 @@
--- A map is swept by hashes: what a test refuses below a bound is gone.
+-- A map is swept by hashes: the pairs below a bound for which a test returns false are removed.
 use Rattle.bucket_table.proofs.Words.{AllByRecursion, Bool, BucketView, HasNoneFrom, IsPermutation, IsPermutation-append_left}
 use Rattle.bucket_table.proofs.Words.{IsPermutation-append_right, IsPermutation-refl, IsPermutation-trans, List, [], ap, append-nil}
 use Rattle.bucket_table.proofs.Words.{append_assoc, arith, bound_of, cases_lt, false, filter, filter-append, inl, inr, le-leb, length}
@@ -16,7 +16,7 @@ use Rattle.bucket_table.proofs.Walking.Filters.{IsPermutation-filter, filter_all
 use Rattle.bucket_table.proofs.Walking.Retaining.{pairs_moved}
 
 module _ {K V : Type 0} (IsTest : (K × V → Bool) → Type 0) (hash : K → ℕ) where
-  -- a sweep on its way: what is gone has hashes below `high`, and what is there with a hash below `low` is kept
+  -- a sweep that isn't over: removed pairs have hashes below `high`, and the remaining pairs with a hash below `low` are kept
   pub record IsSweeping (old now : List (K × V)) (low high count : ℕ) : Type 0 where
     pub gone : List (K × V)
     pub parts : IsPermutation old (gone ++ now)
@@ -25,7 +25,7 @@ module _ {K V : Type 0} (IsTest : (K × V → Bool) → Type 0) (hash : K → �
     pub refused : (test : K × V → Bool) → IsTest test → AllByRecursion (λ pair. test pair ≡ false) gone
     pub kept : (test : K × V → Bool) → IsTest test → AllByRecursion (λ pair. hash pair.0 < low → test pair ≡ true) now
 
-  -- nothing is gone
+  -- nothing is removed
   pub sweep_begins : (old : List (K × V)) → IsSweeping old old 0 0 0
   sweep_begins old = record {
     gone = [];
@@ -36,7 +36,7 @@ module _ {K V : Type 0} (IsTest : (K × V → Bool) → Type 0) (hash : K → �
     kept = λ test means. each (λ pair less. absurd (omega (arith, less))) old;
   }
 
-  -- the map is the same, and up to the next bound there is nothing
+  -- the map is the same, and there is nothing up to the next bound
   pub sweep_moves : (old now next : List (K × V)) (low high upper count : ℕ)
       → IsPermutation now next → high ≤ upper → HasNoneBetween hash high low next
       → IsSweeping old now high high count → IsSweeping old next low upper count
@@ -100,7 +100,7 @@ module _ {K V : Type 0} (IsTest : (K × V → Bool) → Type 0) (hash : K → �
               ]) (each_filter _ outside _ (s.kept test means)) homes_rest));
         }
 
-  -- a filter over what is gone and what is there
+  -- a filter over the removed and the remaining pairs
   filtered : (p : K × V → Bool) (old gone now : List (K × V)) → IsPermutation old (gone ++ now)
       → AllByRecursion (λ pair. p pair ≡ false) gone → AllByRecursion (λ pair. p pair ≡ true) now → IsPermutation (filter p old) now
   filtered p old gone now parts none all =
@@ -125,7 +125,7 @@ module _ {K V : Type 0} (IsTest : (K × V → Bool) → Type 0) (hash : K → �
         counted = s.counted ∙ ap (λ (n : ℕ). min n (2 ^ 64 - 1)) (length_permutation _ _ same);
       }
 
-  -- and a sweep that is refused has come to a bound
+  -- and a sweep that fails has come to a bound
   pub sweep_stops : (old now next : List (K × V)) (high count : ℕ) → IsSweeping old now high high count → IsPermutation now next
       → (test : K × V → Bool) → IsTest test → IsSweptBelow hash high test old next
   sweep_stops old now next high count s moved test means =

@@ -1,4 +1,4 @@
--- A locked bucket that is left for the next one.
+-- A locked bucket that a cursor leaves for the next one.
 use Rattle.bucket_table.proofs.Words.{ArraysView, AsksShrinking, Err, HasNoneFrom, IsLocked, IsPermutation-sym, Keeps, List, Ok, Place}
 use Rattle.bucket_table.proofs.Words.{Result, Side, TableView, [], ap, bound_of, bucket_on, buckets_on, inl, inr, length, null_place}
 use Rattle.bucket_table.proofs.Words.{pairs_ahead, pairs_in, pairs_of, refl, subst, sym, ℕ, ◌+◌, ◌∙◌, ◌∷◌, ◌≡◌, ◌≢◌, ◌⊎◌}
@@ -48,11 +48,11 @@ module _ {K V H : Type 0} (kind : ℕ) (hash : H → K → ℕ) (side : Side) (i
   ]
 
   module _ (old new : TableView K V H) (missing : Missing) (a : Advances kind hash old side index from (Err missing) to new) where
-    -- where something is ahead, it stays
+    -- if something is ahead, the cursor stays
     pub not_held : pairs_ahead (bucket_on old.arrays side index) from ≢ [] → ⊥
     not_held some = let answer = (a.stays some).0 in absurd cc
 
-    -- without a next one the pointer is null
+    -- without a next one, the pointer is null
     pub none_null : to ≡ null_place
     none_null = elim (some_or_none (pairs_ahead (bucket_on old.arrays side index) from)) [
       | inl none ↦ (a.leaves none).null
@@ -68,7 +68,7 @@ module _ {K V H : Type 0} (kind : ℕ) (hash : H → K → ℕ) (side : Side) (i
       | inr some ↦ absurd (not_held some)
     ]
 
-    -- it isn't refused, where no old array stands and no shrinking is asked for
+    -- it doesn't fail if there is no old array and no shrinking is asked for
     pub refused_beside : length old.arrays.linked ≡ 0
         → (pairs_in (bucket_on old.arrays side index) ≡ [] → AsksShrinking old.arrays index → ⊥) → missing ≡ Memory → ⊥
     refused_beside alone quiet memory = elim (some_or_none (pairs_ahead (bucket_on old.arrays side index) from)) [

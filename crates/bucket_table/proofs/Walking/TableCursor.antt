@@ -13,7 +13,7 @@ use Rattle.bucket_table.proofs.Views.SideChanges.{changeable_locked}
 use Rattle.bucket_table.proofs.Walking.Each.{none_in}
 
 module _ {K V H : Type 0} where
-  -- a cursor that sets out in the arrays sets out in the table
+  -- a cursor that starts in the arrays starts in the table
   pub sets_out : (kind : ℕ) (hash : H → K → ℕ) (hasher : H) (a : ArraysView K V) (bound : ℕ) (r : Result ℕ Missing) (new : ArraysView K V)
       (at : Place)
       → bound ≤ 0 → KeepsArrays a new → IsFoundFrom (hash hasher) bound r new at → Passes (λ i. i) 0 a r new
@@ -27,7 +27,7 @@ module _ {K V H : Type 0} where
   }
 
 module _ {K V : Type 0} where
-  -- a bucket of the table was gone through
+  -- a bucket of the table was swept
   pub left_of : {kind epoch : ℕ} (eq : K → K → Bool) → IsEquivalence eq → (hash : K → ℕ) (a : ArraysView K V)
       (index count : ℕ) (IsTest : (K × V → Bool) → Type 0) (new : ArraysView K V)
       → IsOneMap eq hash a → IsLocked a Current index → RetainsAt IsTest kind epoch a index count new → IsOneMap eq hash new
@@ -35,7 +35,7 @@ module _ {K V : Type 0} where
       rw r.new_is (one_map_losing_on eq laws hash a Current index r.left one (changeable_locked a Current index locked)
       (keys_parted (bucket_on a Current index) r.left r.retains.gone r.retains.alive r.retains.parts))
 
-  -- where a cursor finds nothing at all, there was nothing
+  -- if a cursor finds nothing at all, there was nothing
   pub nothing_there : (hash : K → ℕ) (a : ArraysView K V) (bound : ℕ) (r : Result ℕ Missing) (new : ArraysView K V) (at : Place)
       → bound ≡ 0 → KeepsArrays a new → IsFoundFrom hash bound r new at → r ≡ Err Nothing → pairs_of a ≡ []
   nothing_there hash a bound (Ok index) new at zero_bound kept h found = absurd cc

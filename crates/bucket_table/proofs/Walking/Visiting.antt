@@ -1,4 +1,4 @@
--- A current bucket is lent, and comes back with some of its keys.
+-- A current bucket is lent, and is returned with some of its keys.
 use Rattle.bucket_table.proofs.Words.{AllByRecursion, AreSourcesKilled, ArraysView, AsksShrinking, Bool, BucketView, Current, Err}
 use Rattle.bucket_table.proofs.Words.{IsEntryHome, IsEquivalence, IsLocked, IsOneMap, Keeps, KeepsArrays, KeepsOpenTickets, Meets, Ok}
 use Rattle.bucket_table.proofs.Words.{TableView, WorksUnits, ap, arith, arrays_with, bucket_at, bucket_on, cases_Bool, cases_lt, entries_in}
@@ -30,7 +30,7 @@ module _ {K V : Type 0} where
     lost : LosesKeys (bucket_on arrays Current index) left
     lost = record { gone = kept.gone; keys = kept.keys; alive = kept.alive ∙ sym (one.placed.homes.alive index locked.within) }
 
-    -- the map stays one
+    -- the map is still one
     pub one_map_visited : IsOneMap eq hash (arrays_with arrays Current index left)
     one_map_visited =
         one_map_losing_on eq laws hash arrays Current index left one (changeable_locked arrays Current index locked) lost
@@ -72,7 +72,7 @@ module _ {S K V H : Type 0} (step : S → BucketView K V → Bool → Bool → B
 
 module _ {S K V : Type 0} (step : S → BucketView K V → Bool → Bool → BucketView K V → Bool → S
     → Type 0) (hash : K → ℕ) where
-  -- where a walk over a table stands between two buckets
+  -- the state of a walk over a table between two buckets
   pub record WalkStands (first now : S) (old : ArraysView K V) (from index : ℕ) (flag more : Bool) (table : ArraysView K V) : Type 0 where
     pub walks : WalksOn step hash first now old from index flag more table
     pub killed : AreKilledFor table from index
@@ -130,13 +130,13 @@ module _ {S K V : Type 0} (step : S → BucketView K V → Bool → Bool → Buc
     maximum = refl;
   }
 
-  -- what holds of the table without an old array holds where none stood at first
+  -- what holds of a table without an old array holds if there was none at first
   pub walks_alone : {R : Type 0} {first now : S} {old table : ArraysView K V} {from index : ℕ} {flag more : Bool}
       → WalkStands first now old from index flag more table → (length table.linked ≡ 0 → R) → length old.linked ≡ 0 → R
   walks_alone {old = old} {table = table} stands holds none =
       holds (units_alone (length stands.walks.visits) old table stands.walks.units none)
 
-  -- a refusal ends the walk
+  -- a failure ends the walk
   pub walk_refused : {A E : Type 0} {error : E} {expected start : ℕ} {first now : S}
       {old table ready : ArraysView K V} {from index : ℕ} {flag more : Bool} → BeginsAt (length old.current) expected start from
       → WalkStands first now old from index flag more table → KeepsArrays table ready

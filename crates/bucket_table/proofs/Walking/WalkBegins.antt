@@ -1,10 +1,10 @@
--- Where a walk begins.
+-- The first bucket of a walk.
 use Rattle.bucket_table.proofs.Words.{IsInRange, IsLength, Meets, arith, cases_lt, div-lt_iff_lt-mul, inl, inr, interval_width, refl, ℕ}
 use Rattle.bucket_table.proofs.Words.{◌*◌, ◌/◌, ◌<◌, ◌^◌, ◌↔◌, ◌≡◌, ◌≤◌}
 use Rattle.bucket_table.specs.Walking.Walks.{BeginsAt}
 use Rattle.bucket_table.proofs.Walking.Bounds.{begins_early, begins_late, wide}
 
--- an array of few enough buckets has hashes for each
+-- an array that isn't too long has hashes for each bucket
 pub wide_enough : (n : ℕ) → 0 < n → n ≤ 2 ^ 64 → 0 < interval_width n
 wide_enough n some few = elim (cases_lt 0 (interval_width n)) [
   | inl is ↦ is

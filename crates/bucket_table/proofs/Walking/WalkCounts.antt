@@ -1,4 +1,4 @@
--- What a script's walk counts, and what its clearing leaves.
+-- What a script's walk counts, and what its `Clear` leaves.
 use Rattle.bucket_table.proofs.Words.{ArraysView, Bool, BucketView, Err, IsLength, IsPermutation, IsPermutation-refl, List, MarksBy, Ok}
 use Rattle.bucket_table.proofs.Words.{Result, TableView, [], ap, append-nil, arith, bound_of, cases_lt, counted, counted_to, false}
 use Rattle.bucket_table.proofs.Words.{false_from_ne_true, filter, filter_agree, has_home_in, inl, inr, length, length_permutation, lt-ltb}
@@ -176,7 +176,7 @@ module _ {S K V : Type 0} (kind : ℕ) (epoch count : S → ℕ) where
   abbrev pub emptying : S → BucketView K V → Bool → Bool → BucketView K V → Bool → S → Type 0
   emptying s lent flag more left last t = Empties kind (epoch s) (count s) lent flag more left last (count t)
 
-  -- an emptier keeps to what a walk asks of its visitor
+  -- an emptier does what a walk requires of its visitor
   pub keeps_emptied : KeepsBuckets emptying
   keeps_emptied f g lent left flag more last alive call =
       let key : (K × V) × ℕ → K × ℕ = λ e. (e.0.0, e.1) in
@@ -208,7 +208,7 @@ module _ {S K V : Type 0} (kind : ℕ) (epoch count : S → ℕ) where
       left_from emptying hash old (λ s t lent left flag more last call. call.none_left) w
 
 module _ {K V H : Type 0} (kind : ℕ) (t s : TableView K V H) (hasher : s.hasher ≡ t.hasher) where
-  -- the map of a table whose pairs went, or went in part
+  -- the map of a table whose pairs were removed, all or in part
   pub clears_all : (count : ℕ) → s.arrays.minimum ≡ t.arrays.minimum → s.arrays.maximum ≡ t.arrays.maximum
       → (pairs_of s.arrays ≡ []) × (count ≡ counted_to (pairs_of t.arrays))
       → (count ≡ counted_to (pairs_of t.arrays)) × (state_of kind s ≡ record (state_of kind t) { pairs = [] })

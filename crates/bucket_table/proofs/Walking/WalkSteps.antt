@@ -1,4 +1,4 @@
--- A walk goes on by one bucket.
+-- A walk continues by one bucket.
 use Rattle.bucket_table.proofs.Words.{AllByRecursion, AreSourcesKilled, ArraysView, Bool, BucketView, Current, IsInRange, IsPermutation}
 use Rattle.bucket_table.proofs.Words.{IsPermutation-append_right, IsPermutation-refl, IsPermutation-trans, KeepsArrays, List, WorksUnits}
 use Rattle.bucket_table.proofs.Words.{[], and_from, ap, append-nil, append_assoc, arith, arrays_with, bucket_on, cases_Bool, cases_lt}
@@ -16,7 +16,7 @@ use Rattle.bucket_table.proofs.Map.MapKept.{keeps_pairs}
 use Rattle.bucket_table.proofs.Views.Keeping.{kept_both, kept_none}
 use Rattle.bucket_table.proofs.Rehash.UnitRuns.{stands_still, units_as, units_both}
 
--- bucket `index` was lent with all the pairs of the map that have their home there, and the map is those that it was left with, and the
+-- bucket `index` was lent with all the pairs of the map that have their home there, and the map is the pairs that it was left with, and the
 -- others
 pub record IsVisitOf {K V : Type 0} (hash : K → ℕ) (old : ArraysView K V) (index : ℕ) (lent left : BucketView K V)
     (new : ArraysView K V) : Type 0 where
@@ -28,7 +28,7 @@ pub record IsVisitOf {K V : Type 0} (hash : K → ℕ) (old : ArraysView K V) (i
   pub len : length new.current ≡ length old.current
 
 module _ {S B : Type 0} (step : S → B → Bool → Bool → B → Bool → S → Type 0) where
-  -- one call more, where none before it stopped the walk
+  -- one more call, if none before it stopped the walk
   pub calls_more : (first now new : S) (flag next last : Bool) (visits : List (Visited B)) (visit : Visited B)
       → AreCalls step first flag visits now next → (HasStopped visits → ⊥)
       → step now visit.lent next visit.more visit.left last new → AreCalls step first flag (visits ++ visit ∷ []) new last
@@ -169,7 +169,7 @@ module _ {K V : Type 0} (hash : K → ℕ) (len : ℕ) where
       homes_now left are = each_append _ _ _ (each_implies _ behind_through homes) (each_implies _ inside_through are)
 
 module _ {K V : Type 0} (hash : K → ℕ) where
-  -- where a walk stands between two calls
+  -- the state of a walk between two calls
   pub record IsPartOfWalk (old : ArraysView K V) (start : ℕ) (visits : List (Visited (BucketView K V))) (now : ArraysView K V) : Type
       0 where
     pub walk : IsWalk hash old start visits now
@@ -190,7 +190,7 @@ module _ {K V : Type 0} (hash : K → ℕ) where
         homes = tt;
       }
 
-  -- the map stays as what it is while old buckets move
+  -- the map stays the same while old buckets move
   pub walk_waits : {old now next : ArraysView K V} {start : ℕ} {visits : List (Visited (BucketView K V))}
       → IsPartOfWalk old start visits now → KeepsArrays now next → IsPartOfWalk old start visits next
   walk_waits {now = now} {next = next} part kept = record {
@@ -227,14 +227,14 @@ module _ {K V : Type 0} where
     λ none. second.1 (rw (first.1 none) none) ∙ first.1 none,
   )
 
-  -- old buckets move on once more
+  -- old buckets move once more
   pub each_waits : (old now ready : ArraysView K V) (start : ℕ) (visits : List (Visited (BucketView K V)))
       → VisitsEach old start visits now → MovesOn now ready → VisitsEach old start visits ready
   each_waits old now ready start [] so_far moves = moves_both so_far moves
   each_waits old now ready start (one ∷ visits) (first, moved, killed, lent, rest) moves =
       (first, moved, killed, lent, each_waits (arrays_with first Current start one.left) now ready (start + 1) visits rest moves)
 
-  -- one visit more
+  -- one more visit
   each_more : (old now ready : ArraysView K V) (start index : ℕ) (visits : List (Visited (BucketView K V)))
       (visit : Visited (BucketView K V)) → index ≡ start + length visits → VisitsEach old start visits now → MovesOn now ready
       → AreSourcesKilled ready index → visit.lent ≡ bucket_on ready Current index

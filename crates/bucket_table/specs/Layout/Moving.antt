@@ -1,4 +1,4 @@
--- Pairs that move one by one to their homes in an array, as the calls inside a relocation say it. No public clause cites this module.
+-- Pairs that move one by one to their homes in an array, as the private calls of a relocation state it. No public clause cites this module.
 use Rattle.std.specs.Prelude.{ℕ, ◌≡◌, ◌<◌, ◌≤◌, ◌%◌, false, Option, Some, List, length, slice_set}
 use Rattle.std.specs.List.{All}
 use Rattle.bucket_slots.specs.ArrayView.{bucket_at}
@@ -16,8 +16,8 @@ use Rattle.bucket_table.specs.Rehash.Relocation.{AreHome, HasRoomFor, IsWay, hom
 abbrev pub HasOwnByte : {K V : Type 0} → (K → ℕ) → (K × V) × ℕ → Type 0
 HasOwnByte hash entry = entry.1 ≡ hash entry.0.0 % 256
 
--- the pairs of a bucket can move into an array: each has its own byte and its home in a range of buckets, and there is room for all;
--- those of the array are at home, and no bucket of it is killed
+-- the pairs of a bucket can move into an array: each has its own byte and its home in a range of buckets, and there is room for all; the
+-- array's pairs are at home, and none of its buckets is killed
 pub record CanMoveInto {K V : Type 0} (hash : K → ℕ) (start end : ℕ)
     (bucket : BucketView K V) (buckets : List (BucketView K V)) : Type 0 where
   pub within : end ≤ length buckets
@@ -27,7 +27,7 @@ pub record CanMoveInto {K V : Type 0} (hash : K → ℕ) (start end : ℕ)
   pub room : HasRoomFor hash buckets (pairs_in bucket)
   pub alive : (j : ℕ) → j < length buckets → (bucket_at buckets j).killed ≡ false
 
--- the pair at a place moves to its home in an array, a bucket of the same kind, and a table says where it landed
+-- the pair at a place moves to its home in an array, a bucket of the same kind, and a table records where it landed
 pub record MovesHome {K V : Type 0} (kind : ℕ) (hash : K → ℕ) (at : Place)
     (bucket : BucketView K V) (buckets : List (BucketView K V)) (landings : List (Option Landing))
     (left : BucketView K V) (after : List (BucketView K V)) (said : List (Option Landing)) : Type 0 where

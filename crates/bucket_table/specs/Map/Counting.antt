@@ -9,20 +9,20 @@ use Rattle.bucket_table.specs.Views.Keeping.{KeepsArrays}
 use Rattle.bucket_table.specs.declared.hash_table.ResizeRule.{ResizeRule}
 use Rattle.bucket_table.specs.declared.hash_table.ResizeRule.TheVariants.{Counted, Sampled}
 
--- how many there are, cut to what a number of 64 bits holds
+-- the length of a list, at most 2^64 - 1
 abbrev pub counted_to : {A : Type 0} → List A → ℕ
 counted_to xs = min (length xs) (2 ^ 64 - 1)
 
--- how many pairs a removal leaves, where the rule of a resize goes by it
+-- the number of pairs that a removal leaves, if the rule of a resize depends on it
 abbrev pub pairs_left : {K V : Type 0} → ResizeRule → ArraysView K V → Option ℕ
 pairs_left Sampled arrays = None
 pairs_left Counted arrays = Some (counted_to (pairs_of arrays) - 1)
 
--- a number is how many are left, if they are counted
+-- a number is the number of remaining elements, if they are counted
 abbrev pub IsRest : {A : Type 0} → Bool → ℕ → List A → Type 0
 IsRest counted rest left = IsTrue counted → rest ≡ length left
 
--- a number is at least how many are left, if they are counted
+-- a number is at least the number of remaining elements, if they are counted
 abbrev pub IsMost : {A : Type 0} → Bool → ℕ → List A → Type 0
 IsMost counted most left = IsTrue counted → length left ≤ most
 
@@ -35,26 +35,26 @@ pub record IsCountedMap {K V : Type 0} (eq : K → K → Bool) (hash : K → ℕ
   pub one_map : IsOneMap eq hash arrays
   pub counted : count ≡ counted_to (pairs_of arrays)
 
--- a number is the count of a list, if another one was before so many went and so many came
+-- a number is the count of a list, if `before` was the count before `gone` elements were removed and `added` ones inserted
 abbrev pub CountsAfter : {A : Type 0} → ℕ → ℕ → ℕ → List A → ℕ → Type 0
 CountsAfter count gone added now result =
     (before : ℕ) → count ≡ min before (2 ^ 64 - 1) → before + added ≡ length now + gone → result ≡ counted_to now
 
--- how many pairs more there are where one was put, none if another was there in its place
+-- how many more pairs there are after a put: one if the pair was inserted and none evicted for it, else none
 abbrev pub put_count : {A E : Type 0} → Result (Option A) E → ℕ
 put_count (Ok None) = 1
 put_count (Ok (Some earlier)) = 0
 put_count (Err refused) = 0
 
--- the live pairs that stand in the chains of some buckets, bucket after bucket
+-- the live pairs that are in the chains of some buckets, bucket after bucket
 abbrev pub chained_among : {K V : Type 0} → List (BucketView K V) → List (K × V)
 chained_among buckets = flat_map (λ bucket. live_pairs (flattened bucket.chain)) buckets
 
--- the buckets have 32 own slots each, so that no more entries stand in them than own slots and what the chains have
+-- each bucket has 32 own slots, so there are at most as many entries as own slots and pairs in the chains
 abbrev pub IsHeldBy : {A K V : Type 0} → List A → List (BucketView K V) → Type 0
 IsHeldBy entries buckets = length entries ≤ 32 * length buckets + length (chained_among buckets)
 
--- a unit was worked, where an old array stood; then a resize is asked for where no pair is found and the minimum is 0
+-- a unit was worked, if there was an old array; then a resize is asked for if there is no pair and the minimum is 0
 pub record CountsAndResizes {K V : Type 0} (old new : ArraysView K V) : Type 0 where
   pub between : ArraysView K V
   pub kept : KeepsArrays old between

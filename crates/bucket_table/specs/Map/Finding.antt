@@ -18,27 +18,27 @@ use Rattle.bucket_table.specs.declared.arrays.side.Side.TheVariants.{Old}
 use Rattle.bucket_table.specs.declared.hash_table.ResizeRule.{ResizeRule}
 use Rattle.bucket_table.specs.declared.hash_table.ResizeRule.TheVariants.{Counted}
 
--- the arrays are made ready for a current bucket: a first array where there is none, and beside an old one a unit is
--- worked and each source of the bucket moved
+-- the arrays are made ready for a current bucket: a first array is made if there is none, and beside an old one a unit is worked and each
+-- source of the bucket moved
 pub record MakesReady {K V : Type 0} (old : ArraysView K V) (index : ℕ) (new : ArraysView K V) : Type 0 where
   pub first : length old.linked ≡ 0 → MakesArray old new
   pub beside : 0 < length old.linked → KeepsArrays old new
   pub units : WorksUnits 1 (λ home. home ≡ index) old new
   pub killed : AreSourcesKilled new index
 
--- and then they may grow: the side says whether a growth was done, and it is done only where the bucket asks for it;
--- a caller that needs it unfolds it, since the search of one that doesn't would go through all of it
+-- and then they may grow: the side says whether they did, and they do so only if the bucket asks for it; a caller that needs this
+-- definition unfolds it, since the search of one that doesn't would go through all of it
 unfoldable pub ReadiesThenGrows : {K V : Type 0} → ℕ → ℕ → ArraysView K V → Side → ℕ → ArraysView K V → Type 0
 ReadiesThenGrows {K} {V} kind hash old side index new = (between : ArraysView K V) × MakesReady old index between
     × ResizesIf (WriterAsksGrowth kind hash between index) between new × Grows side between new
 
--- or, where the rule is to grow for an overfull home, they grew since it is one, and the side is that of the old array
+-- or, if the rule is to grow for an overfull home, they grew for one, and the side is that of the old array
 unfoldable pub ReadiesOrGrows : {K V : Type 0} → ResizeRule → ℕ → ℕ → ArraysView K V → Side → ℕ → ArraysView K V → Type 0
 ReadiesOrGrows {K} {V} rule kind hash old side index new =
     ReadiesThenGrows kind hash old side index new ⊎ ((rule ≡ Counted) × (side ≡ Old) × GrowsOverfull hash old new)
 
--- no bucket is found for a hash: a unit was worked, and allocation failed for a source of its home; without an old array there
--- was no current one either, and all stays
+-- no bucket is found for a hash: a unit was worked, and allocation failed for a source of its home; without an old array there was no
+-- current one either, and nothing changes
 pub record FindsNone {K V : Type 0} (hash : ℕ) (old new : ArraysView K V) : Type 0 where
   pub kept : KeepsArrays old new
   pub units : WorksUnits 1 (IsHome (length new.current) hash) old new
@@ -54,12 +54,12 @@ pub record FindsBucket {K V H : Type 0} (rule : ResizeRule) (kind hash : ℕ) (o
   pub locked : IsLocked new.arrays side index
   pub found : ReadiesOrGrows rule kind hash old.arrays side index new.arrays
 
--- what looking for a writer's bucket answers, its side and its index, and what it leaves; if it fails, the table is prepared
+-- the result of finding a writer's bucket, its side and its index, and what it leaves; if it fails, the table is prepared
 abbrev pub Finds : {K V H E : Type 0} → ResizeRule → ℕ → ℕ → TableView K V H → Result (Side × ℕ) E → TableView K V H → Type 0
 Finds rule kind hash old (Ok found) new = FindsBucket rule kind hash old found.0 found.1 new
 Finds rule kind hash old (Err refused) new = IsRefused kind hash old new
 
--- a writer's bucket is looked for, and then this is done
+-- a writer's bucket is found or not, and then this is done
 pub record FindsThen {K V H : Type 0} (rule : ResizeRule) (kind hash : ℕ) (old : TableView K V H)
     (Then : Result (Side × ℕ) (Unit {0}) → TableView K V H → Type 0) : Type 0 where
   pub answer : Result (Side × ℕ) (Unit {0})

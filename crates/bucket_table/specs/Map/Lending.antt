@@ -1,4 +1,4 @@
--- What a table ends as where the value of one of its slots was lent for writing.
+-- What a table is after a loan of the value in one of its slots for writing.
 use Rattle.std.specs.Prelude.{ℕ, Bool, true, Ok, Option, IfNone, IfSome}
 use Rattle.std.specs.Borrow.{Fml, Lends, LendsSo, MutBor, RattleType}
 use denote.Param.{number}
@@ -16,12 +16,12 @@ use Rattle.bucket_table.specs.Views.TableRow.{table_row}
 use Rattle.bucket_table.specs.declared.key_hash.KeyHash as key_hash
 use Rattle.bucket_table.specs.declared.arrays.side.Side.{Side}
 
--- the table, once a slot of a bucket of one side has the value
+-- the table with this value in a slot of a bucket of one side
 abbrev pub with_value : {K V H : Type 0} → TableView K V H → Side → ℕ → Place → V → TableView K V H
 with_value table side index at value = with_bucket table side index (bucket_with_value (bucket_on table.arrays side index) at value)
 
--- the value beside a wanted key was this one and is that one; for it a unit was worked and the sources of a hash's home moved, and then one
--- slot was written, and touched if the call touches
+-- the value of a matching key was `before` and is now `value`: a unit was worked and the sources of a hash's home moved, and then one slot
+-- was written, and touched if the call touches
 pub record WritesUnder {K V H : Type 0} (touches : Bool) (wants : K → Bool) (kind hash : ℕ) (old : TableView K V H) (before value : V)
     (new : TableView K V H) : Type 0 where
   pub map : Swaps wants value (state_of kind old) (Ok before) (state_of kind new)
@@ -35,8 +35,8 @@ module _ (K V H L : RattleType) (TYPE : ℕ) (equal : equals.Ghosts K.Denot) (ha
   LendsSlot side index at loan =
       Lends (table_row K V H L (number TYPE) equal hashing listing fresh) V table loan (with_value table.now side index at)
 
-  -- the value beside a wanted key was what the loan showed, and is the last one written through it, and its slot is touched if the call
-  -- touches; where there is no loan a unit was worked
+  -- the value of a matching key was what the loan showed, and is now the last one written through it, and its slot is touched if the call
+  -- touches; if nothing is lent, only a unit was worked
   abbrev pub LendsUnder : Bool → (K.Denot → Bool) → ℕ → Option (MutBor V.Denot) → Fml
   LendsUnder touches wants hash loan =
       LendsSo (table_row K V H L (number TYPE) equal hashing listing fresh) V table loan

@@ -8,7 +8,7 @@ use Rattle.bucket_table.specs.Rehash.Units.{WantsMemory, WorksUnits}
 use Rattle.bucket_table.specs.declared.arrays.Missing.{Missing}
 use Rattle.bucket_table.specs.declared.arrays.Missing.TheVariants.{Nothing, Memory}
 
--- a current array stands, and each source of a hash's home is killed
+-- there is a current array, and each source of a hash's home is killed
 pub record IsReady {K V : Type 0} (arrays : ArraysView K V) (hash : ℕ) : Type 0 where
   pub stands : 0 < length arrays.current
   pub killed : (index : ℕ) → IsHome (length arrays.current) hash index → AreSourcesKilled arrays index
@@ -17,8 +17,8 @@ pub record IsReady {K V : Type 0} (arrays : ArraysView K V) (hash : ℕ) : Type 
 abbrev pub HomeWantsMemory : {K V : Type 0} → ℕ → ArraysView K V → ArraysView K V → Type 0
 HomeWantsMemory hash old new = (index : ℕ) × IsHome (length new.current) hash index × WantsMemory (IsSource new index) old new
 
--- a unit was worked, and the sources of a hash's home moved, unless allocation failed for one: the map, the length of the
--- current array and the bag of tickets stay, and without an old array all stays
+-- a unit was worked, and the sources of a hash's home moved, unless allocation failed for one: the map, the length of the current array and
+-- the bag of tickets stay, and without an old array nothing changes
 pub record IsPrepared {K V H : Type 0} (kind hash : ℕ) (old after : TableView K V H) : Type 0 where
   pub map : KeepsPairs (state_of kind old) (state_of kind after)
   pub kept : KeepsArrays old.arrays after.arrays
@@ -26,7 +26,7 @@ pub record IsPrepared {K V H : Type 0} (kind hash : ℕ) (old after : TableView 
   pub alone : length old.arrays.linked ≡ 0 → after ≡ old
   pub home : 0 < length after.arrays.current → IsReady after.arrays hash ⊎ HomeWantsMemory hash old.arrays after.arrays
 
--- why there is no home: there is no current array, or allocation failed, which it does only beside an old one
+-- why there is no home: there is no current array, or allocation failed, which can happen only beside an old one
 abbrev pub IsMissing : {K V : Type 0} → Missing → ArraysView K V → Type 0
 IsMissing Nothing arrays = length arrays.current ≡ 0
 IsMissing Memory arrays = (0 < length arrays.linked) × (0 < length arrays.current)

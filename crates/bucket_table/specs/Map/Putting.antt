@@ -20,14 +20,14 @@ use Rattle.bucket_table.specs.declared.hash_table.NotInserted.{NotInserted}
 use Rattle.bucket_table.specs.declared.hash_table.NotInserted.TheVariants.{Present, Memory}
 use Rattle.bucket_table.specs.declared.arrays.side.Side.{Side}
 
--- one pair is out and another in, and nothing else changes: the rest of the pairs stays
+-- one pair is removed and another inserted, and nothing else changes: the other pairs stay
 pub record ReplacesPair {K V H : Type 0} (old : MapState K V H) (gone pair : K × V) (new : MapState K V H) : Type 0 where
   pub rest : List (K × V)
   pub before : IsPermutation old.pairs (gone ∷ rest)
   pub after : Becomes old (pair ∷ rest) new
 
--- a pair is put where its key is absent, and the pair that is evicted for it is returned; what isn't put is returned too, and then all
--- stays
+-- a pair is inserted if its key is absent, and the pair that is evicted for it is returned; a pair that isn't inserted is returned, and
+-- then nothing changes
 abbrev pub Puts : {K V H : Type 0} → (K → K → Bool) → K → V → MapState K V H → Result (Option (K × V)) (NotInserted K V) → MapState K V H
     → Type 0
 Puts eq key value old (Ok None) new = IsAbsent (λ own. eq own key) old.pairs × AddsPair old (key, value) new
@@ -35,27 +35,28 @@ Puts eq key value old (Ok (Some gone)) new = IsAbsent (λ own. eq own key) old.p
 Puts eq key value old (Err why) new = HandsBack eq key value old.pairs why × KeepsPairs old new
 
 module _ {K V : Type 0} where
-  -- what is evicted for a new pair: none where an own slot is free, and else the pair touched longest ago, or slot 0's where none is listed
+  -- the pair that is evicted for a new one: none if an own slot is free, else the one touched longest ago, or that of slot 0 if none is
+  -- listed
   abbrev pub Goes : BucketView K V → Option (K × V) → Type 0
   Goes bucket None = Contains bucket.own free
   Goes bucket (Some gone) = (Contains bucket.own free → ⊥) × (live_pair (slot_at bucket.own (slot_to_evict bucket)) ≡ Some gone)
 
-  -- the bucket without it
+  -- the bucket without the evicted pair
   abbrev pub slots_left : BucketView K V → Option (K × V) → BucketView K V
   slots_left bucket gone = if is_some gone then slots_evicted bucket else bucket
 
-  -- the first own slot that is free
+  -- the first free own slot
   abbrev pub free_own : BucketView K V → ℕ
   free_own bucket = unwrap_or (position is_free bucket.own) 0
 
-  -- the bucket with a pair there, the newest of its list where that keeps slots
+  -- the bucket with a pair in that slot, which becomes the newest of the list if that keeps slots
   abbrev pub slots_put : Bool → BucketView K V → K × V → ℕ → BucketView K V
   slots_put keeps bucket pair byte = record bucket {
     own = slice_set bucket.own (free_own bucket) (live pair byte);
     listed = if keeps then order_after_touch bucket.listed (free_own bucket) else bucket.listed;
   }
 
-  -- a put into a bucket: the pair is in where no live slot has an equal key, after an eviction for it; no memory is needed
+  -- a put into a bucket: the pair is inserted if no live slot has an equal key, after an eviction for it; nothing is allocated
   abbrev pub PutsIn : (K → K → Bool) → Bool → K → V → ℕ → BucketView K V → Result (Option (K × V)) (NotInserted K V) → BucketView K V
       → Type 0
   PutsIn eq keeps key value byte old (Ok gone) new =
@@ -64,8 +65,8 @@ module _ {K V : Type 0} where
       (k ≡ key) × (v ≡ value) × ((at : Place) × (place_wanted (λ own. eq own key) byte old ≡ Some at)) × (new ≡ old)
   PutsIn eq keeps key value byte old (Err (Memory k v)) new = ⊥
 
--- the pair that is evicted from a hash's home, once it is ready, is out; without an array there is none, and if the call fails the
--- home isn't ready: then all stays
+-- the pair that is evicted from a hash's home, once that is ready, is removed; without an array there is none, and if the call fails, the
+-- home isn't ready: then nothing changes
 abbrev pub EvictsAt : {K V H E : Type 0} → ℕ → TableView K V H → Result (Option (K × V)) E → TableView K V H → Type 0
 EvictsAt hash old (Ok gone) new = ((length old.arrays.current ≡ 0) × (gone ≡ None) × (new ≡ old))
     ⊎ (IsReady old.arrays hash × (index : ℕ) × IsHome (length old.arrays.current) hash index
@@ -73,7 +74,8 @@ EvictsAt hash old (Ok gone) new = ((length old.arrays.current ≡ 0) × (gone �
     × (new ≡ with_bucket old Current index (slots_left (bucket_on old.arrays Current index) gone)))
 EvictsAt hash old (Err refused) new = (IsReady old.arrays hash → ⊥) × (new ≡ old)
 
--- the pair is put into the bucket that was found, after an eviction for it; else all stays, and allocation fails only where none was found
+-- the pair is inserted into the bucket that was found, after an eviction for it; otherwise nothing changes, and allocation fails only if
+-- none was found
 abbrev pub PutsAt : {K V H : Type 0} → Bool → K × V → ℕ → TableView K V H → Result (Option (K × V)) (NotInserted K V)
     → Result (Side × ℕ) (Unit {0}) → TableView K V H → Type 0
 PutsAt keeps pair byte old (Ok gone) (Ok found) new =

@@ -1,4 +1,4 @@
--- The pair that is returned where it wasn't inserted.
+-- The pair that an insertion returns if it fails.
 use Rattle.std.specs.declared.io.ErrorKind.{ErrorKind}
 use Rattle.std.specs.declared.io.ErrorKind.TheVariants.{AlreadyExists, OutOfMemory}
 use Rattle.bucket_table.specs.declared.hash_table.NotInserted.{NotInserted}
@@ -9,7 +9,7 @@ abbrev pub pair_of_refusal : {K V : Type 0} → NotInserted K V → K × V
 pair_of_refusal (Present key value) = (key, value)
 pair_of_refusal (Memory key value) = (key, value)
 
--- the kind of an error that tells the cause
+-- the kind of error that states the cause
 abbrev pub kind_of_refusal : {K V : Type 0} → NotInserted K V → ErrorKind
 kind_of_refusal (Present key value) = AlreadyExists
 kind_of_refusal (Memory key value) = OutOfMemory

@@ -1,4 +1,4 @@
--- What a pair's insertion into a cache does to a table whose slots are doubled first for a full home.
+-- What inserting a pair into a cache does to a table whose slots are first doubled for a full home.
 use Rattle.std.specs.Prelude.{ℕ, ◌≡◌, ◌⊎◌, Result, Ok}
 use Rattle.bucket_table.specs.Map.Finding.{FindsBucket, FindsThen}
 use Rattle.bucket_table.specs.Map.MapState.{KeepsPairs, state_of}
@@ -28,7 +28,7 @@ pub record SplitsThen {K V H : Type 0} (kind hash : ℕ) (old : TableView K V H)
   pub found : FindsBucket Sampled kind hash doubled side index between
   pub done : Then (Ok (side, index)) between
 
--- a writer's bucket is looked for, and then this is done, or the slots are doubled first
+-- a writer's bucket is found or not, and then this is done, or the slots are doubled first
 abbrev pub FindsOrSplitsThen : {K V H : Type 0} → ℕ → ℕ → TableView K V H → (Result (Side × ℕ) (Unit {0}) → TableView K V H → Type 0)
     → Type 0
 FindsOrSplitsThen kind hash old Then = FindsThen Sampled kind hash old Then ⊎ SplitsThen kind hash old Then

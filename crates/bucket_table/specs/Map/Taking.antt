@@ -12,8 +12,8 @@ use Rattle.bucket_table.specs.Views.Keeping.{Keeps}
 use Rattle.bucket_table.specs.Views.Sides.{arrays_with, bucket_on, buckets_on}
 use Rattle.bucket_table.specs.declared.arrays.side.Side.{Side}
 
--- the pair of a live slot, whose key is wanted, is taken out, and where no live pair is left in the bucket the arrays may shrink, by the
--- number of pairs that are left where it is given
+-- the pair of a live slot with a matching key is taken out, and if no live pair is left in the bucket, the arrays may shrink, by the number
+-- of remaining pairs if that is given
 pub record TakesFrom {K V : Type 0} (left : Option ℕ) (wants : K → Bool) (side : Side) (old : ArraysView K V) (pair : K × V)
     (new : ArraysView K V) : Type 0 where
   pub index : ℕ
@@ -25,13 +25,13 @@ pub record TakesFrom {K V : Type 0} (left : Option ℕ) (wants : K → Bool) (si
   pub placed : (hash : K → ℕ) → ArePlaced hash (arrays_with old side index (slots_without (bucket_on old side index) at))
       → ArePlaced hash new
 
--- a wanted pair is taken out of the home on one side; there is no answer exactly where that home has none, and all stays
+-- a matching pair is taken out of the home on one side; the result is `None` exactly if that home has none, and nothing changes
 abbrev pub TakesOn : {K V : Type 0} → Option ℕ → (K → Bool) → ℕ → Side → ArraysView K V → Option (K × V) → ArraysView K V → Type 0
 TakesOn left wants hash side old (Some pair) new = TakesFrom left wants side old pair new
 TakesOn left wants hash side old None new =
     (new ≡ old) × (pair_wanted wants (hash % 256) (home_bucket hash (buckets_on old side)) ≡ None)
 
--- the pair of the first wanted slot of a bucket of one side is taken out, and so many live pairs are left there
+-- the pair of the first matching slot of a bucket of one side is taken out, and the given number of live pairs is left there
 pub record TakesHomePair {K V : Type 0} (wants : K → Bool) (byte : ℕ) (side : Side) (index : ℕ) (old : ArraysView K V) (pair : K × V)
     (left : ℕ)
     (new : ArraysView K V) : Type 0 where
@@ -41,7 +41,7 @@ pub record TakesHomePair {K V : Type 0} (wants : K → Bool) (byte : ℕ) (side 
   pub changed : new ≡ arrays_with old side index (slots_without (bucket_on old side index) at)
   pub left_is : left ≡ length (pairs_in (slots_without (bucket_on old side index) at))
 
--- there is no answer exactly where no slot is wanted, and all stays
+-- the result is `None` exactly if no slot matches, and nothing changes
 abbrev pub TakesHome : {K V : Type 0} → (K → Bool) → ℕ → Side → ℕ → ArraysView K V → Option ((K × V) × ℕ) → ArraysView K V → Type 0
 TakesHome wants byte side index old (Some found) new = TakesHomePair wants byte side index old found.0 found.1 new
 TakesHome wants byte side index old None new = (new ≡ old) × (place_wanted wants byte (bucket_on old side index) ≡ None)

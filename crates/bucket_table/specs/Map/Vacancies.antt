@@ -1,11 +1,11 @@
--- What the home of a hash is where no key of it is wanted.
+-- What the home of a hash is if no key of that hash matches.
 use Rattle.std.specs.Prelude.{ℕ, ◌≡◌, ◌<◌, length}
 use Rattle.bucket_table.specs.Map.Preparing.{HomeWantsMemory, IsReady}
 use Rattle.bucket_table.specs.Views.ArraysView.{ArraysView}
 use Rattle.bucket_table.specs.declared.hash_table.Vacancy.{Vacancy}
 use Rattle.bucket_table.specs.declared.hash_table.Vacancy.TheVariants.{NoArray, NoMemory, Ready}
 
--- once a unit was worked and its sources moved: it is ready; or there was no array; or allocation failed for one of its sources
+-- after a unit was worked and its sources moved, it is ready; or there was no array; or allocation failed for one of its sources
 abbrev pub IsVacancy : {K V : Type 0} → Vacancy → ℕ → ArraysView K V → ArraysView K V → Type 0
 IsVacancy Ready hash old new = IsReady new hash
 IsVacancy NoArray hash old new = (length old.current ≡ 0) × (length old.linked ≡ 0)

@@ -1,4 +1,4 @@
--- LRU order that moves along: what the current buckets list once the pairs of old ones have moved on.
+-- The LRU order that moves with pairs: what the current buckets list after the pairs of old ones have moved.
 use Rattle.std.specs.Prelude.{ℕ, ◌≡◌, ◌≢◌, ◌++◌, ◌⊎◌, Bool, List, [], ◌∷◌, flat_map, map}
 use Rattle.std.specs.Cmp.{IsEquivalence}
 use Rattle.std.specs.List.{All, Contains, IsDistinct, filter, list_any}
@@ -8,7 +8,7 @@ use Rattle.bucket_slots.specs.Slots.{live_pairs}
 use Rattle.bucket_table.specs.Rehash.Relocation.{KeepsPlaces}
 use Rattle.bucket_table.specs.Views.ArraysView.{ArraysView, pairs_of}
 
--- whether a pair with an equal key stands in an own slot of a bucket
+-- whether a pair with an equal key is in an own slot of a bucket
 abbrev pub has_own_key : {K V : Type 0} → (K → K → Bool) → BucketView K V → K → Bool
 has_own_key eq bucket key = list_any (λ pair. eq key pair.0) (live_pairs bucket.own)
 
@@ -16,7 +16,7 @@ has_own_key eq bucket key = list_any (λ pair. eq key pair.0) (live_pairs bucket
 abbrev pub listed_among : {K V : Type 0} → List (BucketView K V) → List ℕ → List (K × V)
 listed_among buckets indices = flat_map (λ i. listed_pairs (bucket_at buckets i)) indices
 
--- each bucket lists its own pairs, followed by those of some listed pairs that stand in its own slots now, in their order
+-- each bucket lists its own pairs, followed by those of some listed pairs that are now in its own slots, in their order
 abbrev pub CarriesPairs : {K V : Type 0} → (K → K → Bool) → List (K × V) → List (BucketView K V) → List (BucketView K V) → Type 0
 CarriesPairs eq listed current new_current = (j : ℕ) → listed_pairs (bucket_at new_current j)
     ≡ listed_pairs (bucket_at current j) ++ filter (λ pair. has_own_key eq (bucket_at new_current j) pair.0) listed
@@ -25,21 +25,21 @@ CarriesPairs eq listed current new_current = (j : ℕ) → listed_pairs (bucket_
 abbrev pub chained_pairs : {K V : Type 0} → BucketView K V → List (K × V)
 chained_pairs bucket = live_pairs (flattened bucket.chain)
 
--- a pair moved before another one: it stands in an own slot, or the other one in a chain, or they stand in different buckets
+-- a pair moved before another one: it is in an own slot, or the other one in a chain, or they are in different buckets
 abbrev pub WentFirst : {K V : Type 0} → List (BucketView K V) → K × V → K × V → Type 0
 WentFirst buckets pair other =
     ((j : ℕ) × Contains (live_pairs (bucket_at buckets j).own) pair)
     ⊎ (((j : ℕ) × Contains (chained_pairs (bucket_at buckets j)) other)
     ⊎ ((i j : ℕ) × (i ≢ j) × Contains (pairs_in (bucket_at buckets i)) pair × Contains (pairs_in (bucket_at buckets j)) other))
 
--- each pair of a list moved before those behind it
+-- each pair of a list moved before those after it
 abbrev pub WentInOrder : {K V : Type 0} → List (BucketView K V) → List (K × V) → Type 0
 WentInOrder buckets [] = Unit {0}
 WentInOrder buckets (pair ∷ rest) = All (λ other. WentFirst buckets pair other) rest × WentInOrder buckets rest
 
--- old buckets have moved on, one after another, and carried their LRU order: each of the others has the pairs that it had, and lists what
--- it listed; no pair of the current array leaves its place; and each listed pair of those that moved stands there now, listed where it has
--- an own slot. The pairs of a bucket go in the order of its slots, so that own slots of a home go to the first of them
+-- old buckets have moved, one after another, with their LRU order: each other old bucket has the same pairs and list; no pair of the
+-- current array leaves its place; and each listed pair of those that moved is now there, listed if it has an own slot. The pairs of a
+-- bucket move in slot order, so the first of them get the own slots of a home
 pub record CarriesOrder {K V : Type 0} (old new : ArraysView K V) : Type 0 where
   pub moved : List ℕ
   pub left : (i : ℕ) → (Contains moved i × (listed_pairs (bucket_at new.linked i) ≡ []))

@@ -3,7 +3,7 @@ use Rattle.std.specs.Prelude.{ℕ, ◌+◌, ◌*◌, ◌-◌, ◌/◌, ◌<◌, 
 use Rattle.bucket_table.specs.Rehash.Units.{WantsMemory}
 use Rattle.bucket_table.specs.Views.ArraysView.{ArraysView}
 
--- how many units of the old array are left to hand out: those from the position on
+-- the number of units of the old array left to issue: those from the position on
 abbrev pub units_left : {K V : Type 0} → ArraysView K V → ℕ
 units_left arrays = (length arrays.linked + 63) / 64 - arrays.tickets.position
 
@@ -11,8 +11,8 @@ units_left arrays = (length arrays.linked + 63) / 64 - arrays.tickets.position
 abbrev pub IsUnopened : {K V : Type 0} → ArraysView K V → Type 0
 IsUnopened arrays = 0 < length arrays.linked → arrays.tickets.open_units ≡ []
 
--- where no ticket was open one unit is worked, and finished unless allocation fails, when it is still the next one; there is a unit
--- exactly while there is an old array
+-- if no ticket was open, one unit is worked, and finished unless allocation fails; then it is still the next one; there is a unit exactly
+-- while there is an old array
 pub record Finishes {K V : Type 0} (old : ArraysView K V) (answer : Option Bool) (new : ArraysView K V) : Type 0 where
   pub none_open : new.tickets.open_units ≡ []
   pub none : IfNone answer ((length old.linked ≡ 0) × (new ≡ old))

@@ -11,7 +11,8 @@ use Rattle.bucket_table.specs.Rehash.Steps.{Ends}
 use Rattle.bucket_table.specs.Views.Keeping.{KeepsArrays}
 use Rattle.bucket_table.specs.declared.tickets.TicketError.{TicketError}
 
--- a ticket ends as its unit's buckets are killed; the old array is dropped where nothing of it is left to do
+-- the end of a ticket, whose unit is done if its buckets are killed; the old array is dropped once all its buckets are killed and no unit
+-- is left
 abbrev pub EndsRehash : {K V : Type 0} → ArraysView K V → ℕ → Bool → Result Bool TicketError → ArraysView K V → Type 0
 EndsRehash old ticket success (Ok true) new =
     ((last : TicketState) × Ends old.tickets ticket success (IsUnitKilled (killed_flags old.linked) (ticket / 2048)) (Ok true) last)
@@ -20,8 +21,8 @@ EndsRehash old ticket success answer new =
     Ends old.tickets ticket success (IsUnitKilled (killed_flags old.linked) (ticket / 2048)) answer new.tickets
     × (new ≡ record old { tickets = new.tickets })
 
--- the old bucket is killed, without a pair, and has its tombstones; its pairs stand in the current array, and no other bucket changes
--- but its targets; where it was killed already nothing changes
+-- the old bucket is killed, without a pair, and keeps its tombstones; its pairs are in the current array, and only its targets change; if
+-- it was killed already, nothing changes
 pub record RelocatesAt {K V : Type 0} (index : ℕ) (old new : ArraysView K V) : Type 0 where
   pub bucket : BucketView K V
   pub is_killed : bucket.killed ≡ true

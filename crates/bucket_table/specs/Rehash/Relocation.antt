@@ -1,4 +1,4 @@
--- Two arrays during an incremental rehash: where their pairs stand, and what becomes of them when a bucket's pairs move on.
+-- Two arrays during an incremental rehash: where their pairs are, and what happens to them when a bucket's pairs move.
 use Rattle.std.specs.Prelude.{ℕ, ◌≡◌, ◌==◌, ◌<◌, ◌≤◌, ◌%◌, ◌/◌, ◌++◌, true, false, List, [], flat_map, length}
 use Rattle.std.specs.List.{All, count_by}
 use Rattle.std.specs.List.Sorted.{IsPermutation}
@@ -17,25 +17,25 @@ entries_among buckets = flat_map entries_in buckets
 abbrev pub marks_among : {K V : Type 0} → List (BucketView K V) → List ((K × V) × ℕ)
 marks_among buckets = flat_map marks_in buckets
 
--- the index of a hash's home: how many widths of an interval the hash has behind it
+-- the index of a hash's home: the number of interval widths that fit below the hash
 abbrev pub home_of : ℕ → ℕ → ℕ
 home_of len hash = hash / interval_width len
 
--- the entry stands in its home, with the low byte of its key's hash
+-- the entry is in its home, with the low byte of its key's hash
 pub record IsEntryHome {K V : Type 0} (hash : K → ℕ) (len index : ℕ) (entry : (K × V) × ℕ) : Type 0 where
   pub home : IsHome len (hash entry.0.0) index
   pub own_byte : entry.1 ≡ hash entry.0.0 % 256
 
--- where a pair moves to in an array: its home's index, and a number with the low byte of its hash
+-- the destination of a pair in an array: its home's index, and a number with the low byte of its hash
 pub record IsWay {K V : Type 0} (hash : K → ℕ) (len : ℕ) (pair : K × V) (index number : ℕ) : Type 0 where
   pub home : IsHome len (hash pair.0) index
   pub own_byte : number % 256 ≡ hash pair.0 % 256
 
--- each live pair of an array stands in its home, with its byte
+-- each live pair of an array is in its home, with its byte
 abbrev pub AreHome : {K V : Type 0} → (K → ℕ) → List (BucketView K V) → Type 0
 AreHome hash buckets = (i : ℕ) → i < length buckets → All (IsEntryHome hash (length buckets) i) (entries_in (bucket_at buckets i))
 
--- how many of the pairs have their home in bucket `index` of an array of this length
+-- the number of pairs that have their home in bucket `index` of an array of this length
 abbrev pub homed_len : {K V : Type 0} → (K → ℕ) → ℕ → ℕ → List (K × V) → ℕ
 homed_len hash len index pairs = count_by (λ pair. home_of len (hash pair.0) == index) pairs
 
@@ -72,8 +72,8 @@ pub record AreTwoArrays {K V : Type 0} (hash : K → ℕ) (current linked : List
       → (i j : ℕ) → i < length linked → j < length current → (bucket_at linked i).killed ≡ false
       → Meets (length linked) i (length current) j → IsVacant (bucket_at current j)
 
--- old bucket `index` was moved: it is killed, without a pair, and has its tombstones; its pairs are among the current ones, no tombstone
--- is new, and nothing else has changed; one that was killed already stays
+-- old bucket `index` was moved: it is killed, without a pair, and keeps its tombstones; its pairs are among the current ones, no tombstone
+-- is new, and nothing else has changed; if it was killed already, it stays
 pub record IsRelocated {K V : Type 0} (index : ℕ) (current linked new_current new_linked : List (BucketView K V)) : Type 0 where
   pub killed : (bucket_at new_linked index).killed ≡ true
   pub empty : pairs_in (bucket_at new_linked index) ≡ []
@@ -91,8 +91,8 @@ abbrev pub KeepsPlaces : {K V : Type 0} → List (BucketView K V) → List (Buck
 KeepsPlaces buckets after = (i : ℕ) (at : Place) → is_free (slot_in (bucket_at buckets i) at) ≡ false
     → slot_in (bucket_at after i) at ≡ slot_in (bucket_at buckets i) at
 
--- the live pairs of every bucket are the same, its tombstones, its own slots, its LRU list and whether it is killed, and none
--- leaves its place; only free slots may be more
+-- the live pairs of every bucket are the same, and so are its tombstones, its own slots, its LRU list and whether it is killed, and none
+-- leaves its place; only free slots may be added
 pub record KeepsEntries {K V : Type 0} (buckets after : List (BucketView K V)) : Type 0 where
   pub len : length after ≡ length buckets
   pub entries : (i : ℕ) → entries_in (bucket_at after i) ≡ entries_in (bucket_at buckets i)

@@ -6,14 +6,14 @@ use Rattle.bucket_slots.specs.Homes.{IsHome}
 use Rattle.bucket_table.specs.Resize.Resizing.{IsPushed}
 use Rattle.bucket_table.specs.Views.ArraysView.{ArraysView, pairs_of}
 
--- no old array stands, and a hash's home has 48 live pairs or more
+-- there is no old array, and a hash's home has 48 live pairs or more
 pub record HasFullHome {K V : Type 0} (hash : ℕ) (arrays : ArraysView K V) : Type 0 where
   pub index : ℕ
   pub alone : length arrays.linked ≡ 0
   pub home : IsHome (length arrays.current) hash index
   pub full : 48 ≤ length (pairs_in (bucket_at arrays.current index))
 
--- so it is, there is a pair for each 8 slots, and twice the slots pass no maximum
+-- the same, and there is a pair for each 8 slots, and twice the slots do not exceed the maximum
 pub record IsOverfull {K V : Type 0} (hash : ℕ) (arrays : ArraysView K V) : Type 0 where
   pub bucket : HasFullHome hash arrays
   pub many : 4 * length arrays.current ≤ length (pairs_of arrays)
@@ -24,13 +24,13 @@ pub record GrowsOverfull {K V : Type 0} (hash : ℕ) (old new : ArraysView K V) 
   pub overfull : IsOverfull hash old
   pub pushed : IsPushed (64 * length old.current) old new
 
--- whether the arrays grow so: they do where a hash's home is overfull, unless allocation fails
+-- whether the arrays grow like that: they do if a hash's home is overfull, unless allocation fails
 abbrev pub GrowsIfOverfull : {K V E : Type 0} → ℕ → ArraysView K V → Result Bool E → ArraysView K V → Type 0
 GrowsIfOverfull hash old (Ok true) new = GrowsOverfull hash old new
 GrowsIfOverfull hash old (Ok false) new = (IsOverfull hash old → ⊥) × (new ≡ old)
 GrowsIfOverfull hash old (Err refused) new = IsOverfull hash old × (new ≡ old)
 
--- a hash's home may be split: no old array stands, the home has as many pairs as own slots, and twice the slots pass no maximum
+-- a hash's home may be split: there is no old array, the home has as many pairs as own slots, and twice the slots are at most the maximum
 pub record MaySplit {K V : Type 0} (hash : ℕ) (arrays : ArraysView K V) : Type 0 where
   pub index : ℕ
   pub alone : length arrays.linked ≡ 0
@@ -43,7 +43,7 @@ pub record SplitsHome {K V : Type 0} (hash : ℕ) (old new : ArraysView K V) : T
   pub may : MaySplit hash old
   pub pushed : IsPushed (64 * length old.current) old new
 
--- what trying it answers: whether the slots were doubled; they are where a hash's home may be split, unless allocation fails
+-- the result of trying it: whether the slots were doubled; they are if a hash's home may be split, unless allocation fails
 abbrev pub TriesSplit : {K V E : Type 0} → ℕ → ArraysView K V → Result Bool E → ArraysView K V → Type 0
 TriesSplit hash old (Ok true) new = SplitsHome hash old new
 TriesSplit hash old (Ok false) new = (MaySplit hash old → ⊥) × (new ≡ old)

@@ -8,24 +8,23 @@ use Rattle.bucket_table.specs.Resize.Resizing.{IsPushed}
 use Rattle.bucket_table.specs.Views.ArraysView.{ArraysView}
 use Rattle.bucket_table.specs.Views.Keeping.{Keeps}
 
--- the same arrays with no ticket open, and no unit handed out
+-- the same arrays with no ticket open, and no unit issued
 abbrev pub unopened : {K V : Type 0} → ArraysView K V → ArraysView K V
 unopened arrays = record arrays { tickets = first_tickets (length arrays.linked) }
 
--- no old array stands, and the current one has the length for a capacity
+-- there is no old array, and the current one has the length for a capacity
 pub record IsSettledAt {K V : Type 0} (capacity : ℕ) (arrays : ArraysView K V) : Type 0 where
   pub alone : length arrays.linked ≡ 0
   pub len : IsLengthFor capacity (length arrays.current)
 
--- LRU order is carried in two moves: the pairs of the old array move on, and then, where an array for a capacity is made, all of them do
+-- the LRU order is carried in two moves: the pairs of the old array move, and then, if an array for a capacity is made, all of them do
 pub record CarriesOrderTo {K V : Type 0} (capacity : ℕ) (old new : ArraysView K V) : Type 0 where
   pub between : ArraysView K V
   pub first : CarriesOrder old between
   pub again : (new ≡ between) ⊎ ((pushed : ArraysView K V) × IsPushed capacity between pushed × CarriesOrder pushed new)
 
--- all pairs move to one array for a capacity, in which they are unless allocation fails; no ticket is open any more, and where one array of
--- that length was alone nothing changes; the current array has its length or that one, and where it had that one, memory is needed for an
--- old bucket alone
+-- all pairs move to one array for a capacity, and are in it unless allocation fails; no ticket is open then; if one array of that length
+-- was alone, nothing changes; the current array has its length or that one, and if it had that one, only an old bucket can need memory
 pub record RehashesTo {K V E : Type 0} (capacity : ℕ) (old : ArraysView K V) (answer : Result (Unit {0}) E)
     (new : ArraysView K V) : Type 0 where
   pub kept : Keeps (unopened old) new

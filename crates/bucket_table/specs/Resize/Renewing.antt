@@ -23,7 +23,7 @@ own_backwards bucket slots = live_pairs (reverse (map (slot_at bucket.own) slots
 abbrev pub own_by_age : {K V : Type 0} → BucketView K V → List (K × V)
 own_by_age bucket = own_backwards bucket (slots_by_use (length bucket.own) bucket.listed)
 
--- the live pairs of a bucket by age: those of the chain, and then those of the own slots
+-- the live pairs of a bucket by age: those of the chain, then those of the own slots
 abbrev pub pairs_by_age : {K V : Type 0} → BucketView K V → List (K × V)
 pairs_by_age bucket = chain_pairs bucket ++ own_by_age bucket
 
@@ -42,13 +42,13 @@ PutsHome {K} {V} hash old pair new =
     (index : ℕ) × (gone : Option (K × V)) × IsHome (length old) (hash pair.0) index × Goes (bucket_at old index) gone
     × (new ≡ slice_set old index (slots_put true (slots_left (bucket_at old index) gone) pair (hash pair.0 % 256)))
 
--- and so is each of some pairs, in turn
+-- the same for each of some pairs, in turn
 abbrev pub PutsEach : {K V : Type 0} → (K → ℕ) → List (BucketView K V) → List (K × V) → List (BucketView K V) → Type 0
 PutsEach hash old [] new = new ≡ old
 PutsEach {K} {V} hash old (pair ∷ pairs) new =
     (between : List (BucketView K V)) × PutsHome hash old pair between × PutsEach hash between pairs new
 
--- a table may take pairs in: one array alone stands, at the greatest capacity, and no key occurs twice among these pairs and its own
+-- a table can take pairs: there is only one array, at the maximum capacity, and no key occurs twice among these pairs and its own
 pub record Awaits {K V H : Type 0} (eq : K → K → Bool) (table : TableView K V H) (pairs : List (K × V)) : Type 0 where
   pub stands : 0 < length table.arrays.current
   pub alone : length table.arrays.linked ≡ 0
@@ -62,7 +62,7 @@ pub record Pours {K V H : Type 0} (hash : H → K → ℕ) (old : TableView K V 
   pub gone : List (K × V)
   pub parts : IsPermutation (pairs ++ pairs_of old.arrays) (gone ++ pairs_of new.arrays)
 
--- a new array for a capacity, which is both the minimum and the maximum, stands alone, and each pair was put into it by age; those that
+-- a new array for a capacity, which is both the minimum and the maximum, is the only one, and each pair was put into it by age; those that
 -- were evicted for others are dropped
 pub record Renews {K V : Type 0} (hash : K → ℕ) (capacity : ℕ) (old new : ArraysView K V) : Type 0 where
   pub fresh : List (BucketView K V)

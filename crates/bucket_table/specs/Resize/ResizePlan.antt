@@ -1,4 +1,4 @@
--- What a resize does, decided from how many live slots each bucket has.
+-- What a resize does, which depends on the number of live slots of each bucket.
 use Rattle.std.specs.Prelude.{ℕ, ◌*◌, ◌/◌, ◌-◌, ◌<◌, ◌≤◌, ◌≡◌, ◌⊎◌, List, length}
 use Rattle.std.specs.List.{All}
 use Rattle.bucket_slots.specs.Sampling.{IsLargeSample, full_sample}
@@ -11,7 +11,7 @@ use Rattle.bucket_table.specs.declared.arrays.plan.Plan.TheVariants.{Keep, GiveU
 abbrev pub slots_of : List ℕ → ℕ
 slots_of counts = 32 * length counts
 
--- the estimate from as many buckets as the large sample has: the last ones, and the first ones
+-- the estimates from as many buckets as are in the large sample: from the last ones, and from the first ones
 abbrev pub last_estimate : List ℕ → ℕ → ℕ
 last_estimate counts large = estimate counts (length counts - large) large
 
@@ -22,17 +22,16 @@ first_estimate counts large = estimate counts 0 large
 abbrev pub middle_estimate : List ℕ → ℕ
 middle_estimate counts = estimate counts ((length counts - full_sample (length counts)) / 2) (full_sample (length counts))
 
--- what is done where the middle estimate asks for a capacity: a growth is done, and a shrinking
--- unless the first buckets ask for a greater capacity
+-- what is done if the middle estimate asks for a capacity: a growth is done, and a shrinking is done unless the first buckets ask for a
+-- greater capacity
 pub record IsPlanTo (slots capacity : ℕ) (IsAskedAtFirst : ℕ → Type 0) (plan : Plan) : Type 0 where
   pub unchanged : capacity ≡ slots → plan ≡ Keep
   pub greater : slots < capacity → plan ≡ Resize capacity
   pub less : capacity < slots → (asked : ℕ) × IsAskedAtFirst asked × (capacity < asked → plan ≡ Keep)
       × (asked ≤ capacity → plan ≡ Resize capacity)
 
--- the plan for an array whose buckets have so many live slots, by the last estimate: a table that
--- may be without an array drops it where all its buckets are empty; a table that is neither too
--- full nor too empty keeps it; any other goes by the middle estimate
+-- the plan for an array with these numbers of live slots in its buckets, by the last estimate: a table that may be without an array drops
+-- it if all its buckets are empty; a table that is neither too full nor too empty keeps it; any other follows the middle estimate
 pub record IsPlan (counts : List ℕ) (minimum maximum : ℕ) (plan : Plan) : Type 0 where
   pub large : ℕ
   pub large_is : IsLargeSample (length counts) large

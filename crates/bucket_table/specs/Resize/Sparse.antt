@@ -1,11 +1,11 @@
--- A shrinking for which the number of pairs has to agree with the samples of a resize.
+-- A shrinking for which the number of pairs must agree with the samples of a resize.
 use Rattle.std.specs.Prelude.{ℕ, ◌*◌, ◌<◌, ◌≤◌, ◌≡◌, ◌⊎◌, length, max}
 use Rattle.bucket_table.specs.Resize.Resizing.{IsGivenUp, IsPlanOf, IsPushed}
 use Rattle.bucket_table.specs.Views.ArraysView.{ArraysView}
 use Rattle.bucket_table.specs.declared.arrays.plan.Plan.{Plan}
 use Rattle.bucket_table.specs.declared.arrays.plan.Plan.TheVariants.{Keep, GiveUp, Resize}
 
--- so many pairs are less than an eighth of the slots
+-- this number of pairs is less than an eighth of the slots
 abbrev pub IsSparse : {K V : Type 0} → ℕ → ArraysView K V → Type 0
 IsSparse pairs arrays = pairs < 4 * length arrays.current
 
@@ -18,7 +18,7 @@ FreesSlots pairs (Resize capacity) old new =
     ((capacity < 32 * length old.current) × (IsPushed (max capacity (pairs * 2)) old new ⊎ (new ≡ old)))
     ⊎ ((32 * length old.current ≤ capacity) × (new ≡ old))
 
--- where a shrinking is asked for, the arrays follow their plan if it frees slots; else they stay
+-- if a shrinking is asked for, the arrays follow their plan if it frees slots; otherwise they stay
 abbrev pub ShrinksIf : {K V : Type 0} → Type 0 → ℕ → ArraysView K V → ArraysView K V → Type 0
 ShrinksIf Asked pairs old new =
     (Asked × ((plan : Plan) × IsPlanOf old plan × FreesSlots pairs plan old new)) ⊎ ((Asked → ⊥) × (new ≡ old))

@@ -1,5 +1,5 @@
--- What a call may reply, and what becomes of the map. A reply that isn't stated is impossible; the replies to the calls of a rehash are
--- told by the steps on its tickets.
+-- What a call may reply, and what happens to the map. A reply that isn't stated is impossible; the replies to the calls of a rehash are
+-- stated by the steps on its tickets.
 use Rattle.std.specs.Prelude.{ℕ, ◌≡◌, ◌≢◌, ◌<◌, ◌↔◌, Bool, true, IsTrue, [], filter, length, nat_le}
 use Rattle.bucket_slots.specs.declared.bucket.TheConstants.{CACHE}
 use Rattle.bucket_table.specs.Map.Counting.{counted_to}

@@ -1,4 +1,4 @@
--- The hashes of a script meet the laws of hashes.
+-- The hashes of a script obey the laws of hashes.
 use Rattle.std.specs.Prelude.{ℕ, ◌≡◌, ◌<◌, ◌^◌, true, nat_eq}
 use Rattle.std.proofs.Common.{arith, ap, eqb-true}
 use Rattle.bucket_table.specs.declared.script.hashes.ScriptHash.{ScriptHash}

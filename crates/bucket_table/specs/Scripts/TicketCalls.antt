@@ -1,5 +1,4 @@
--- The tickets of an old array and its killed buckets, as a machine that knows no pairs, and what each call
--- does to it.
+-- The tickets of an old array and its killed buckets, as a machine that knows no pairs, and what each call does to it.
 use Rattle.std.specs.Prelude.{ℕ, ◌/◌, ◌<◌, ◌≤◌, ◌≡◌, Bool, true, false, [], Some, None, Result, Ok, Err, length, slice_index_or, slice_set}
 use Rattle.bucket_table.specs.Views.ArraysView.{ArraysView, killed_flags}
 use Rattle.bucket_table.specs.Rehash.Covered.{AreAllKilled, IsUnitKilled, RehashState}
@@ -12,7 +11,7 @@ use Rattle.bucket_table.specs.declared.script.call.Call.TheVariants.{Peek, Start
 use Rattle.bucket_table.specs.declared.script.reply.Reply.{Reply}
 use Rattle.bucket_table.specs.declared.script.reply.Reply.TheVariants.{Done, Ticket, NoTicket, NoWork, Ended, Fault, Refused}
 
--- the machine that a table's arrays are
+-- the machine that corresponds to a table's arrays
 abbrev pub rehash_of : {K V : Type 0} → ArraysView K V → RehashState
 rehash_of arrays = record { tickets = arrays.tickets; killed = killed_flags arrays.linked }
 
@@ -20,7 +19,8 @@ rehash_of arrays = record { tickets = arrays.tickets; killed = killed_flags arra
 abbrev pub no_rehash : RehashState
 no_rehash = record { tickets = first_tickets 0; killed = [] }
 
--- a ticket ends as its unit's buckets are killed; the old array is dropped where nothing of it is left to do
+-- the end of a ticket, whose unit is done if its buckets are killed; the old array is dropped once all its buckets are killed and no unit
+-- is left
 abbrev pub EndsTicket : RehashState → ℕ → Bool → Result Bool TicketError → RehashState → Type 0
 EndsTicket before ticket success (Ok true) after =
     ((last : TicketState) × Ends before.tickets ticket success (IsUnitKilled before.killed (ticket / 2048)) (Ok true) last)
@@ -29,8 +29,8 @@ EndsTicket before ticket success answer after =
     Ends before.tickets ticket success (IsUnitKilled before.killed (ticket / 2048)) answer after.tickets × (after.killed ≡ before.killed)
 
 module _ {K V : Type 0} where
-  -- From the tickets `before` the call may have this reply, and `after` are the tickets after it. A call that isn't
-  -- of the rehash may work at it, end it or begin one, and opens and closes no ticket.
+  -- From the tickets `before` the call may have this reply, and `after` are the tickets after it. A call that isn't one of the rehash may
+  -- work on it, end it or begin one, and opens and closes no ticket.
   abbrev pub TicketStep : RehashState → Call K V → Reply K V → RehashState → Type 0
   TicketStep before Start (Ticket ticket) after = Starts before.tickets (Some ticket) after.tickets × (after.killed ≡ before.killed)
   TicketStep before Start NoTicket after = Starts before.tickets None after.tickets × (after.killed ≡ before.killed)

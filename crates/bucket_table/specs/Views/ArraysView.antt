@@ -1,4 +1,4 @@
--- What contracts see of a table's arrays, and what they keep. No array has length 0: the empty list says that there is none.
+-- What contracts see of a table's arrays, and what holds of them. No array has length 0: the empty list means that there is none.
 use Rattle.std.specs.Prelude.{ℕ, ◌≡◌, ◌*◌, ◌^◌, ◌<◌, ◌≤◌, ◌++◌, ◌⊎◌, Bool, true, List, [], Option, Some, None, length, map}
 use Rattle.std.specs.List.{All, Contains, IsDistinct}
 use Rattle.bucket_slots.specs.ArrayView.{bucket_at}
@@ -9,7 +9,7 @@ use Rattle.bucket_table.specs.Rehash.Relocation.{AreTwoArrays, entries_among, ma
 use Rattle.bucket_table.specs.Rehash.State.{TicketState}
 use Rattle.bucket_table.specs.Rehash.Covered.{IsCovered}
 
--- the least and the greatest capacity, the current array, and the old one during an incremental rehash, with its tickets
+-- the minimum and the maximum, the current array, and the old one during an incremental rehash, with its tickets
 pub record ArraysView (K V : Type 0) : Type 0 where
   pub minimum : ℕ
   pub maximum : ℕ
@@ -17,7 +17,7 @@ pub record ArraysView (K V : Type 0) : Type 0 where
   pub linked : List (BucketView K V)
   pub tickets : TicketState
 
--- the buckets of an array, none where there is no array
+-- the buckets of an array, or none if there is no array
 abbrev pub list_of : {A : Type 0} → Option (List A) → List A
 list_of None = []
 list_of (Some xs) = xs
@@ -30,7 +30,7 @@ entries_of arrays = entries_among arrays.current ++ entries_among arrays.linked
 abbrev pub marks_of : {K V : Type 0} → ArraysView K V → List ((K × V) × ℕ)
 marks_of arrays = marks_among arrays.current ++ marks_among arrays.linked
 
--- the map that the arrays are
+-- the map that the arrays represent
 abbrev pub pairs_of : {K V : Type 0} → ArraysView K V → List (K × V)
 pairs_of arrays = map (λ entry. entry.0) (entries_of arrays)
 
@@ -38,14 +38,14 @@ pairs_of arrays = map (λ entry. entry.0) (entries_of arrays)
 abbrev pub killed_flags : {K V : Type 0} → List (BucketView K V) → List Bool
 killed_flags buckets = map (λ bucket. bucket.killed) buckets
 
--- no unit of the old array is forgotten, while it stands one is left to hand out or handed out, and a killed bucket has no live pair
+-- no unit of the old array is lost: while it exists, one is open or left to issue; and a killed bucket has no live pair
 pub record LosesNoUnit {K V : Type 0} (linked : List (BucketView K V)) (tickets : TicketState) : Type 0 where
   pub covered : IsCovered (killed_flags linked) tickets
   pub going_on : 0 < length linked → (64 * tickets.position < tickets.len) ⊎ ((unit : ℕ) × Contains tickets.open_units unit)
   pub emptied : All (λ bucket. bucket.killed ≡ true → pairs_in bucket ≡ []) linked
 
--- the capacities bound each other and the current array, an old array has a current one beside it, and the tickets are
--- those of the old one: nothing of what is in a bucket, since a bucket is lent for writing
+-- the capacities bound each other and the current array, an old array has a current one beside it, and the tickets are those of the old
+-- one; nothing is said of the content of a bucket, since buckets are lent for writing
 pub record AreArrays {K V : Type 0} (arrays : ArraysView K V) : Type 0 where
   pub maximum_power : IsPowerIn 64 (2 ^ 63) arrays.maximum
   pub bounded : arrays.minimum ≤ arrays.maximum
@@ -53,7 +53,7 @@ pub record AreArrays {K V : Type 0} (arrays : ArraysView K V) : Type 0 where
   pub beside : 0 < length arrays.linked → 0 < length arrays.current
   pub tickets_len : arrays.tickets.len ≡ length arrays.linked
 
--- each live pair of both arrays stands in its home, targets are empty, and no unit is forgotten
+-- each live pair of both arrays is in its home, targets are empty, and no unit is lost
 pub record ArePlaced {K V : Type 0} (hash : K → ℕ) (arrays : ArraysView K V) : Type 0 where
   pub homes : AreTwoArrays hash arrays.current arrays.linked
   pub rehashed : LosesNoUnit arrays.linked arrays.tickets
@@ -68,10 +68,10 @@ pub record TableView (K V H : Type 0) : Type 0 where
   pub hasher : H
   pub arrays : ArraysView K V
 
--- an old bucket is a source of the current bucket with an index
+-- an old bucket is a source of the current bucket at an index
 abbrev pub IsSource : {K V : Type 0} → ArraysView K V → ℕ → ℕ → Type 0
 IsSource arrays index i = Meets (length arrays.linked) i (length arrays.current) index
 
--- each source of the current bucket with an index is killed
+-- each source of the current bucket at an index is killed
 abbrev pub AreSourcesKilled : {K V : Type 0} → ArraysView K V → ℕ → Type 0
 AreSourcesKilled arrays index = (i : ℕ) → i < length arrays.linked → IsSource arrays index i → (bucket_at arrays.linked i).killed ≡ true

@@ -21,13 +21,13 @@ pub record Keeps {K V : Type 0} (old new : ArraysView K V) : Type 0 where
   pub maximum : new.maximum ≡ old.maximum
   pub open_tickets : KeepsOpenTickets old.tickets new.tickets
 
--- and so does the length of the current array, and the LRU order is carried
+-- the same, and the length of the current array stays, and the LRU order is carried
 pub record KeepsArrays {K V : Type 0} (old new : ArraysView K V) : Type 0 where
   pub keeps : Keeps old new
   pub current_len : length new.current ≡ length old.current
   pub order : CarriesOrder old new
 
--- there are as many buckets, and those that were killed are
+-- the number of buckets is the same, and those that were killed still are
 pub record StayKilled {K V : Type 0} (old new : List (BucketView K V)) : Type 0 where
   pub len : length new ≡ length old
   pub still : (i : ℕ) → (bucket_at old i).killed ≡ true → (bucket_at new i).killed ≡ true

@@ -1,4 +1,4 @@
--- What a call does to a locked bucket, and what it answers.
+-- What a call does to a locked bucket, and what it returns.
 use Rattle.std.specs.Prelude.{ℕ, ◌≡◌, Bool, None, Result, Ok, Err}
 use Rattle.std.specs.Borrow.{MutBor}
 use Rattle.std.specs.declared.cmp.PartialEq as equals
@@ -21,7 +21,7 @@ module _ {K V H L : Type 0} {TYPE : ℕ} {equal : equals.Ghosts K} {hashing : ke
   abbrev pub bucket_in : LockedBucket K V H L TYPE equal hashing listing fresh → BucketView K V
   bucket_in locked = bucket_on locked.table.now.arrays locked.side locked.index
 
-  -- the bucket is changed so, and it is the same bucket of the same table, which changes nowhere else
+  -- the bucket is changed like that, and it is the same bucket of the same table, which changes nowhere else
   pub record Changes (old new : LockedBucket K V H L TYPE equal hashing listing fresh)
       (change : BucketView K V → BucketView K V) : Type 0 where
     pub same_table : new.table.ghost_name ≡ old.table.ghost_name
@@ -29,13 +29,13 @@ module _ {K V H L : Type 0} {TYPE : ℕ} {equal : equals.Ghosts K} {hashing : ke
     pub same_index : new.index ≡ old.index
     pub table : new.table.now ≡ with_bucket old.table.now old.side old.index (change (bucket_in old))
 
-  -- the bucket is changed so, and where that leaves it no live pair the table may shrink by the plan; it is the table that is returned
+  -- the bucket is changed like that, and if that leaves no live pair in it, the table may shrink by the plan; the table is returned
   pub record ChangesThenShrinks (old : LockedBucket K V H L TYPE equal hashing listing fresh) (back : MutBor (TableView K V H))
       (change : BucketView K V → BucketView K V) : Type 0 where
     pub same_table : back.ghost_name ≡ old.table.ghost_name
     pub arrays : RemovesAndShrinks None old.table.now.arrays old.side old.index (change (bucket_in old)) back.now.arrays
 
--- where an inserted pair stands, in the first slot that is free then or made; if it fails, the pair, and no slot was free
+-- an inserted pair is in the first slot that is then free or new; a failure returns the pair, and no slot was free
 abbrev pub AnswersPlacing : {K V : Type 0} → ℕ → (ℕ → Bool) → K × V → ℕ → BucketView K V → Result Place (K × V) → BucketView K V → Type 0
 AnswersPlacing kind keeps pair byte old (Ok at) new =
     (at ≡ place_for_next (slots_for_insertion kind keeps old)) × (slot_in new at ≡ live pair byte)

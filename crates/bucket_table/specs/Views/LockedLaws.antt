@@ -1,4 +1,4 @@
--- A locked bucket is still one that may be locked once it has other pairs.
+-- A locked bucket can still be locked after its pairs have changed.
 use Rattle.std.proofs.Common.{ℕ, zero, suc, ◌≡◌, length, refl, subst, ◌∙◌, length-set, get_or-set_same}
 use Rattle.bucket_slots.specs.ArrayView.{bucket_at}
 use Rattle.bucket_slots.specs.BucketView.{BucketView, Place, bucket_with_value, empty_bucket, with_slot_at}
@@ -30,7 +30,7 @@ module _ {K V : Type 0} where
   killed-with_slot_at s zero pos x = refl
   killed-with_slot_at s (suc i) pos x = refl
 
-  -- another value in it leaves a bucket one that may be locked
+  -- a bucket that may be locked still may if one of its values is replaced
   pub locked_with_value_is : (a : ArraysView K V) (side : Side) (i : ℕ) (at : Place) (value : V) → IsLocked a side i
       → IsLocked (arrays_with a side i (bucket_with_value (bucket_at (buckets_on a side) i) at value)) side i
   locked_with_value_is a side i at value locked =

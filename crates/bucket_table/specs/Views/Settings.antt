@@ -1,4 +1,4 @@
--- What a call keeps beside the pairs.
+-- What a call keeps besides the pairs.
 use Rattle.std.specs.Prelude.{◌≡◌}
 use Rattle.bucket_table.specs.Views.ArraysView.{TableView}
 use Rattle.bucket_table.specs.Views.Keeping.{KeepsOpenTickets}

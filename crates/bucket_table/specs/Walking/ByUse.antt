@@ -1,11 +1,11 @@
--- The pairs of a cache's arrays by use, and what a walk over them has yet to give.
+-- The pairs of a cache's arrays in order of use, and what a walk over them has yet to visit.
 use Rattle.std.specs.Prelude.{ℕ, List, [], ◌∷◌, ◌++◌, Option, Some, None, map}
 use Rattle.bucket_slots.specs.BucketView.{BucketView}
 use Rattle.bucket_slots.specs.ByUse.{pairs_by_use}
 use Rattle.bucket_slots.specs.Slots.{live_pairs, slot_at}
 use Rattle.bucket_table.specs.Views.ArraysView.{ArraysView}
 
--- the live pairs of buckets, bucket by bucket, those of each by use
+-- the live pairs of buckets, bucket by bucket, those of each in order of use
 abbrev pub all_by_use : {K V : Type 0} → List (BucketView K V) → List (K × V)
 all_by_use [] = []
 all_by_use (bucket ∷ buckets) = pairs_by_use bucket ++ all_by_use buckets
@@ -18,7 +18,7 @@ arrays_by_use arrays = all_by_use arrays.current ++ all_by_use arrays.linked
 abbrev pub own_left : {K V : Type 0} → BucketView K V → List ℕ → List (K × V)
 own_left bucket slots = live_pairs (map (slot_at bucket.own) slots)
 
--- what is left of an array, nothing where there is none
+-- the remaining elements of an array, or none if there is no array
 abbrev pub left_of : {X : Type 0} → Option (List X) → List X
 left_of None = []
 left_of (Some left) = left

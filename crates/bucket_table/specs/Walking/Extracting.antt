@@ -1,4 +1,4 @@
--- What an extraction does, which takes pairs out of the arrays one after another.
+-- An extraction, which takes pairs out of the arrays one by one.
 use Rattle.std.specs.Prelude.{ℕ, ◌≡◌, ◌≢◌, ◌⊎◌, Bool, false, not, List, [], ◌∷◌, ◌++◌, Option, Some, None, length}
 use Rattle.std.specs.Borrow.{Bor, MutBor}
 use Rattle.std.specs.Cmp.{IsEquivalence}
@@ -11,18 +11,18 @@ use Rattle.bucket_table.specs.Views.ArraysView.{ArraysView, IsOneMap, pairs_of}
 use Rattle.bucket_table.specs.Walking.Row.{row_of, row_with}
 use Rattle.bucket_table.specs.Walking.Retains.{AreLeftOf, IsLeftOf}
 
--- what contracts see of an extraction: the arrays, and the pairs that the function wasn't called with yet, which come last in them
+-- what contracts see of an extraction: the arrays, and the pairs that the function wasn't called with yet, which are the last ones in them
 pub record ExtractView (K V : Type 0) : Type 0 where
   pub arrays : ArraysView K V
   pub left : List (K × V)
 
--- a function is asked of a pair, whose value is lent to it, and answers; the pair is then so
+-- a function is called with a pair, whose value is lent to it, and returns a truth value; `later` is the pair after the call
 abbrev pub AsksPair : {S K V : Type 0} → (S → Bor K → MutBor V → Bool → MutBor V → S → Type 0) → S → K × V → Bool → S → K × V → Type 0
 AsksPair {S} {K} {V} step first pair answer last later =
     (own : Bor K) × (before after : MutBor V) × ((own.now, before.now) ≡ pair) × step first own before answer after last
     × (later ≡ (own.now, after.now))
 
--- the arrays are as they were but for what is in their buckets
+-- only the contents of the buckets of the arrays change
 pub record KeepsShape {K V : Type 0} (old new : ArraysView K V) : Type 0 where
   pub minimum : new.minimum ≡ old.minimum
   pub maximum : new.maximum ≡ old.maximum
@@ -30,8 +30,8 @@ pub record KeepsShape {K V : Type 0} (old new : ArraysView K V) : Type 0 where
   pub current_len : length new.current ≡ length old.current
   pub linked_len : length new.linked ≡ length old.linked
 
--- a function is asked of the pairs that are left, in turn, up to the first that it picks, which is taken out; those that it didn't pick
--- stay in their order, as it left them, and no other pair changes; each bucket keeps its other slots and its LRU order
+-- a function is called with the remaining pairs, in turn, up to the first that it picks, which is taken out; those that it didn't pick stay
+-- in their order, as it left them, and no other pair changes; each bucket keeps its other slots and its LRU order
 pub record Extracts {S K V : Type 0} (kind : ℕ) (asks : S → K × V → Bool → S → K × V → Type 0) (first : S) (old : ExtractView K V)
     (picked : Option (K × V)) (new : ExtractView K V) (last : S) : Type 0 where
   pub kept : List (K × V)
@@ -42,8 +42,8 @@ pub record Extracts {S K V : Type 0} (kind : ℕ) (asks : S → K × V → Bool 
   pub current : AreLeftOf kind 0 old.arrays.current new.arrays.current
   pub linked : AreLeftOf kind 0 old.arrays.linked new.arrays.linked
 
--- the pair in a live slot is asked for: where the answer is the one that keeps it, it is there with the value last written, else it is
--- gone, and returned unless the kind is an index; the pairs before it and those ahead stay
+-- a function is called with the pair in a live slot: if the result is `keeps`, the pair stays with the value last written, otherwise it is
+-- removed, and returned unless the kind is an index; the pairs before it and those ahead stay
 pub record AsksAt {S K V : Type 0} (step : S → Bor K → MutBor V → Bool → MutBor V → S → Type 0) (kind : ℕ) (keeps : Bool) (first : S)
     (pair : K × V) (old : BucketView K V) (at : Place) (picked : Option (K × V)) (new : BucketView K V) (to : Place) (last : S)
     : Type 0 where
@@ -57,7 +57,7 @@ pub record AsksAt {S K V : Type 0} (step : S → Bor K → MutBor V → Bool →
       ++ (stay ++ pairs_ahead old at)
   pub ahead : pairs_ahead new to ≡ pairs_ahead old at
 
--- and nothing changes but a bucket of the row
+-- the same, and only one bucket of the row changes
 pub record ExtractsAt {S K V : Type 0} (step : S → Bor K → MutBor V → Bool → MutBor V → S → Type 0) (kind : ℕ) (first : S)
     (pair : K × V) (old : ArraysView K V) (index : ℕ) (at : Place) (picked : Option (K × V)) (new : ArraysView K V) (to : Place)
     (last : S) : Type 0 where

@@ -18,23 +18,23 @@ use Rattle.bucket_table.specs.declared.arrays.side.Side.TheVariants.{Current}
 abbrev pub keys_in : {K V : Type 0} → BucketView K V → List (K × ℕ)
 keys_in bucket = map (λ entry. (entry.0.0, entry.1)) (entries_in bucket)
 
--- what a closure owes of a bucket that is lent to it: some of its keys are removed, and none is new
+-- what a closure must do with a bucket that is lent to it: some of its keys may be removed, and none is new
 pub record IsKeptBy {K V : Type 0} (lent left : BucketView K V) : Type 0 where
   pub gone : List (K × ℕ)
   pub keys : IsPermutation (keys_in lent) (gone ++ keys_in left)
   pub alive : left.killed ≡ false
 
--- every call keeps a bucket's keys so
+-- every call keeps a bucket's keys like that
 abbrev pub KeepsBuckets : {K V S : Type 0} → (S → BucketView K V → Bool → Bool → BucketView K V → Bool → S → Type 0) → Type 0
 KeepsBuckets {K} {V} {S} visits =
     (f g : S) (lent left : BucketView K V) (flag more last : Bool) → lent.killed ≡ false → visits f lent flag more left last g
     → IsKeptBy lent left
 
--- the pair's hash has its home in one of the buckets from `start` up to below `end`
+-- the pair's hash has its home in one of the buckets from `start` up to but not including `end`
 abbrev pub has_home_in : {K V : Type 0} → (K → ℕ) → ℕ → ℕ → ℕ → K × V → Bool
 has_home_in hash len start end pair = nat_le (bound_of len start) (hash pair.0) && nat_lt (hash pair.0) (bound_of len end)
 
--- the pairs that the buckets were left with
+-- the pairs that the calls left in the buckets
 abbrev pub pairs_left : {K V : Type 0} → List (Visited (BucketView K V)) → List (K × V)
 pairs_left visits = flat_map (λ visit. pairs_in visit.left) visits
 
@@ -44,7 +44,7 @@ AreLent hash len pairs index [] = Unit {0}
 AreLent hash len pairs index (visit ∷ visits) =
     IsPermutation (filter (has_home_in hash len index (index + 1)) pairs) (pairs_in visit.lent) × AreLent hash len pairs (index + 1) visits
 
--- the map is the pairs that the buckets lent were left with, and those at entry with their home in none of these buckets
+-- the map is the pairs that the calls left in the buckets that were lent, and those at entry with their home in none of these buckets
 pub record IsWalk {K V : Type 0} (hash : K → ℕ) (old : ArraysView K V) (start : ℕ) (visits : List (Visited (BucketView K V)))
     (new : ArraysView K V) : Type 0 where
   pub lent : AreLent hash (length old.current) (pairs_of old) start visits
@@ -52,32 +52,31 @@ pub record IsWalk {K V : Type 0} (hash : K → ℕ) (old : ArraysView K V) (star
       (pairs_left visits ++ filter (λ pair. not (has_home_in hash (length old.current) start (start + length visits) pair)) (pairs_of old))
       (pairs_of new)
 
--- the walk begins in the bucket with the first hash of bucket `start` of an array of the expected length; at `start` where none is expected
+-- the walk begins in the bucket with the first hash of bucket `start` of an array of the expected length, or at `start` if none is expected
 pub record BeginsAt (len expected start from : ℕ) : Type 0 where
   pub as_given : expected ≡ 0 → from ≡ start
   pub early : expected ≢ 0 → 0 < len → bound_of len from ≤ bound_of expected start
   pub reaches : expected ≢ 0 → 0 < len → bound_of expected start < bound_of len (from + 1)
 
--- where a walk didn't fail, and its flag is set, it ends with a resize where its first buckets have few live pairs, which keeps the
--- map
+-- if a walk didn't fail and its flag is set, it ends with a resize if its first buckets have few live pairs, which keeps the map
 abbrev pub EndsWalk : {K V : Type 0} → Bool → ArraysView K V → ArraysView K V → Type 0
 EndsWalk true ended new = ResizesIf (AsksShrinking ended 0) ended new × Keeps ended new
 EndsWalk false ended new = new ≡ ended
 
--- old buckets may have moved on, and nothing else changes
+-- old buckets may have moved, and nothing else changes
 abbrev pub MovesOn : {K V : Type 0} → ArraysView K V → ArraysView K V → Type 0
 MovesOn old new = KeepsArrays old new × (length old.linked ≡ 0 → new ≡ old)
 
--- each bucket is lent as it is once old buckets have moved on and its sources are all killed, and nothing else changes but what the
--- visits left
+-- each bucket is lent as it is once old buckets have moved and all its sources are killed, and nothing else changes but what the visits
+-- left
 abbrev pub VisitsEach : {K V : Type 0} → ArraysView K V → ℕ → List (Visited (BucketView K V)) → ArraysView K V → Type 0
 VisitsEach old index [] new = MovesOn old new
 VisitsEach {K} {V} old index (visit ∷ visits) new = (ready : ArraysView K V) × MovesOn old ready × AreSourcesKilled ready index
     × (visit.lent ≡ bucket_on ready Current index)
     × VisitsEach (arrays_with ready Current index visit.left) (index + 1) visits new
 
--- a walk by a visitor: it reaches the array's end, is stopped, or fails where allocation fails for a source of the next bucket.
--- Before its end the current array keeps its length, also beside an old array that is dropped
+-- a walk by a visitor: it reaches the array's end, is stopped, or fails because allocation fails for a source of the next bucket. Before
+-- its end the current array keeps its length, even beside an old array that is dropped
 pub record WalksBy {S A E K V : Type 0} (step : S → BucketView K V → Bool → Bool → BucketView K V → Bool → S → Type 0)
     (hash : K → ℕ) (expected start : ℕ) (first : S) (old : ArraysView K V) (result : Result A E) (now : S)
     (new : ArraysView K V) : Type 0 where

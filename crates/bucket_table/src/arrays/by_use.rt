@@ -1,7 +1,6 @@
-//! An iterator over the pairs of a cache's arrays: bucket by bucket, those of each by use.
+//! An iterator over the pairs of a cache's arrays, bucket by bucket, those of each in order of use.
 //!
-//! Of a bucket, the own slots are first, the one touched last before the others, and then its
-//! chain.
+//! The own slots of a bucket come first, starting with the one touched last, and then its chain.
 ghost use Rattle.std.specs.Prelude.{◌≡◌, ◌∷◌, MatchOption, drop};
 ghost use Rattle.std.specs.Iterator.{YieldsFirstBy, item_count};
 ghost use Rattle.bucket_slots.specs.ByUse.{pairs_by_use};
@@ -16,7 +15,7 @@ use bucket_slots::lru::DoublyLinkedList;
 use std::iter::FusedIterator;
 use std::marker::Model;
 
-/// The pairs of a bucket that are left: those of its own slots by use, from an index on, and then
+/// The remaining pairs of a bucket: those of its own slots in order of use, from an index on, then
 /// those past a place.
 #[derive(Drop)]
 pub struct BucketByUse<'a, K, V> {
@@ -78,7 +77,7 @@ impl<'a, K, V> BucketByUse<'a, K, V> {
 }
 
 /// Moves a pointer to the next live slot of a bucket, and returns that slot's pair. At the end the
-/// pointer becomes null, and there is none.
+/// pointer becomes null, and the result is `None`.
 #[inline(always)]
 fn pair_past<'b, K, V>(
     bucket: &'b Bucket<K, V, DoublyLinkedList, CACHE>,
@@ -95,7 +94,7 @@ fn pair_past<'b, K, V>(
     }
 }
 
-/// Returns the pair of the next live own slot, of those in an array from an index on.
+/// Returns the pair of the next live own slot among those in `slots`, from an index on.
 fn own_past<'b, K, V>(
     bucket: &'b Bucket<K, V, DoublyLinkedList, CACHE>,
     slots: &[u8; BUCKET_LEN],
@@ -115,7 +114,7 @@ fn own_past<'b, K, V>(
     None
 }
 
-/// The pairs of an array that are left: those of a bucket, and of the buckets from an index on.
+/// The remaining pairs of an array: those of a bucket, and of the buckets from an index on.
 #[derive(Drop)]
 pub struct ArrayByUse<'a, K, V> {
     array: &'a BucketArray<K, V, DoublyLinkedList, CACHE>,
@@ -165,7 +164,7 @@ impl<'a, K, V> ArrayByUse<'a, K, V> {
     }
 }
 
-/// The pairs of the arrays that are left, those of the current one first.
+/// The remaining pairs of the arrays, those of the current one first.
 #[derive(Drop)]
 pub struct PairsByUse<'a, K, V> {
     current: Option<ArrayByUse<'a, K, V>>,

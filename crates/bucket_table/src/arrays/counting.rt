@@ -1,4 +1,4 @@
-//! How many pairs the arrays have.
+//! Counting the pairs of the arrays.
 ghost use Rattle.std.specs.Prelude.{◌≡◌, ◌≢◌, ◌*◌, ◌-◌, ◌^◌, ◌++◌, ℕ, [], length};
 ghost use Rattle.std.specs.Prelude.{IsTrue, MatchOption, if◌then◌else◌, is_ok, is_some};
 ghost use Rattle.bucket_table.specs.Views.ArraysView.{ArePlaced, entries_of, pairs_of};
@@ -15,7 +15,7 @@ use bucket_slots::bucket::BUCKET_LEN;
 use bucket_slots::lru::LruList;
 
 impl<K: Eq + Drop, V: Drop, L: LruList + Drop, const TYPE: u8> Arrays<K, V, L, TYPE> {
-    /// Works a unit. Where there is no pair, of `count`, and the minimum is 0, resizes.
+    /// Works a unit. If `count`, the number of pairs, is 0 and so is the minimum, it resizes.
     pub(crate) fn count_on<H: KeyHash<K>>(&mut self, hasher: &H, count: usize)
         requires count { count ≡ counted_to (pairs_of self.old) }
         requires placed { ArePlaced (H.hash_of hasher.now) self.old }
@@ -33,7 +33,7 @@ impl<K: Eq + Drop, V: Drop, L: LruList + Drop, const TYPE: u8> Arrays<K, V, L, T
         self.drop_if_empty();
     }
 
-    /// Resizes arrays without pairs where the minimum is 0.
+    /// Resizes arrays without pairs if the minimum is 0.
     fn drop_if_empty(&mut self)
         requires empty { entries_of self.old ≡ [] }
         ensures kept { Keeps self.old self.new }
@@ -51,7 +51,7 @@ impl<K: Eq + Drop, V: Drop, L: LruList + Drop, const TYPE: u8> Arrays<K, V, L, T
 }
 
 impl<K, V, L: LruList, const TYPE: u8> Arrays<K, V, L, TYPE> {
-    /// Returns how many pairs there are, saturating.
+    /// Returns the number of pairs, saturating.
     pub(crate) fn count(&self) -> usize
         ensures count { result ≡ counted_to (entries_of self.now) }
         ensures within { IsHeldBy (entries_of self.now) (self.now.current ++ self.now.linked) }
@@ -78,7 +78,7 @@ impl<K, V, L: LruList, const TYPE: u8> Arrays<K, V, L, TYPE> {
         (self.len() + self.old_len()) * BUCKET_LEN
     }
 
-    /// Counts on, where `count` was the number of pairs before one went.
+    /// Updates `count` after the removal of a pair.
     #[inline(always)]
     pub(crate) fn count_taken(&self, count: &mut PairCount)
         ensures { CountsAfter count.old 1 0 (pairs_of self.now) count.new }
@@ -88,7 +88,7 @@ impl<K, V, L: LruList, const TYPE: u8> Arrays<K, V, L, TYPE> {
         }
     }
 
-    /// Counts on, where `count` was the number of pairs before one went, if `taken` has one.
+    /// Updates `count` after a removal, which removed a pair if `taken` has one.
     #[inline(always)]
     pub(crate) fn count_removal<T>(&self, count: &mut PairCount, taken: &Option<T>)
         ensures { CountsAfter count.old (if is_some taken.now then 1 else 0) 0 (pairs_of self.now)
@@ -100,7 +100,7 @@ impl<K, V, L: LruList, const TYPE: u8> Arrays<K, V, L, TYPE> {
         }
     }
 
-    /// Counts on, where `count` was the number of pairs before one came, if `done` is `Ok`.
+    /// Updates `count` after an insertion, which inserted a pair if `done` is `Ok`.
     #[inline(always)]
     pub(crate) fn count_insertion<T, E>(&self, count: &mut PairCount, done: &Result<T, E>)
         ensures { CountsAfter count.old 0 (if is_ok done.now then 1 else 0) (pairs_of self.now)
@@ -112,8 +112,8 @@ impl<K, V, L: LruList, const TYPE: u8> Arrays<K, V, L, TYPE> {
         }
     }
 
-    /// Returns how many pairs there are, saturating, where `count` was that number before `gone`
-    /// pairs went and `added` ones came.
+    /// Returns the number of pairs, saturating, after `gone` pairs were removed and `added` ones
+    /// inserted. `count` is the number before.
     #[inline(always)]
     pub(crate) fn count_after(&self, count: &PairCount, gone: usize, added: usize) -> PairCount
         ensures { CountsAfter count.now gone added (pairs_of self.now) result }
@@ -140,7 +140,7 @@ pub(crate) fn some_len<T>(held: &Option<T>) -> usize
     }
 }
 
-/// Returns 1 for a pair that was put in place of none, and else 0.
+/// Returns 1 if a pair was inserted and none was evicted for it, and 0 otherwise.
 #[inline(always)]
 pub(crate) fn put_len<T, E>(done: &Result<Option<T>, E>) -> usize
     ensures { result ≡ put_count done.now }
@@ -152,7 +152,7 @@ pub(crate) fn put_len<T, E>(done: &Result<Option<T>, E>) -> usize
     }
 }
 
-/// Tests whether a count of pairs, which saturates, is their number.
+/// Returns whether a count of pairs, which saturates, is exact.
 #[inline(always)]
 pub(crate) fn is_exact(count: usize) -> bool
     ensures { IsTrue result → count ≢ 2 ^ 64 - 1 }
@@ -160,7 +160,7 @@ pub(crate) fn is_exact(count: usize) -> bool
     count != usize::MAX
 }
 
-/// Returns the number that is left once one more is gone.
+/// Returns the remaining number after one more removal.
 #[inline(always)]
 pub(crate) fn one_less(rest: usize) -> usize
     ensures { IsOneLess rest result }
@@ -168,7 +168,7 @@ pub(crate) fn one_less(rest: usize) -> usize
     rest.wrapping_sub(1)
 }
 
-/// Returns the number that is left after a step.
+/// Returns the remaining number after a step.
 #[inline(always)]
 pub(crate) fn rest_after<T>(rest: usize, step: &Option<T>) -> usize
     ensures { MatchOption step.now (result ≡ rest) (λ _. IsOneLess rest result) }

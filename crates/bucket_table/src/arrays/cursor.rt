@@ -98,7 +98,7 @@ impl<K: Eq + Drop, V: Drop, L: LruList + Drop, const TYPE: u8> Arrays<K, V, L, T
     }
 
     /// Moves a pointer to the first live pair past a bucket, and returns that pair's current
-    /// bucket. Where the bucket is empty, the current array may get another length first.
+    /// bucket. If the bucket is empty, the arrays may be resized first.
     ///
     /// # Errors
     ///
@@ -123,8 +123,8 @@ impl<K: Eq + Drop, V: Drop, L: LruList + Drop, const TYPE: u8> Arrays<K, V, L, T
         self.first_past(hasher, index, len, at)
     }
 
-    /// Moves a pointer from where it is in a bucket to the next live pair. Returns the
-    /// side of that pair's bucket, and its index.
+    /// Moves a pointer from its place in a bucket to the next live pair. Returns the side of that
+    /// pair's bucket, and its index.
     ///
     /// # Errors
     ///
@@ -180,7 +180,7 @@ impl<K: Eq + Drop, V: Drop, L: LruList + Drop, const TYPE: u8> Arrays<K, V, L, T
         stops
     }
 
-    /// Returns how many pairs a current bucket has.
+    /// Returns the number of pairs in a current bucket.
     pub(crate) fn len_at(&self, index: usize) -> usize
         requires within { index < length self.now.current }
         ensures { result ≡ length (pairs_in (bucket_on self.now Current index)) }
@@ -190,7 +190,7 @@ impl<K: Eq + Drop, V: Drop, L: LruList + Drop, const TYPE: u8> Arrays<K, V, L, T
     }
 
     /// Removes each pair of a current bucket for which `keep` returns false; in an index it becomes
-    /// a tombstone. Returns how many.
+    /// a tombstone. Returns how many were removed.
     pub(crate) fn retain_bucket<F: Fn(&K, &V) -> bool, G: Generation>(
         &mut self,
         index: usize,
@@ -210,8 +210,8 @@ impl<K: Eq + Drop, V: Drop, L: LruList + Drop, const TYPE: u8> Arrays<K, V, L, T
     }
 }
 
-/// Returns the index in an array of `to` buckets from which a walk continues that has reached
-/// `index` in one of `from` buckets.
+/// Returns the index in an array of `to` buckets at which a walk continues that has reached `index`
+/// in an array of `from` buckets.
 fn scaled(from: usize, to: usize, index: usize) -> usize
     requires from_length { IsLength from }
     requires to_length { IsLength to }

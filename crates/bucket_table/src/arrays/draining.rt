@@ -1,4 +1,4 @@
-//! The pairs of the arrays by value, in the order of their view; or all of them dropped.
+//! The pairs of the arrays by value, in the order of their view; or dropping all of them.
 ghost use Rattle.std.specs.Prelude.{◌≡◌, [], ◌≢◌};
 ghost use Rattle.bucket_table.specs.Rehash.State.{first_tickets};
 ghost use Rattle.std.specs.Iterator.{YieldsFirst, item_count};
@@ -27,10 +27,10 @@ impl<K: Drop, V: Drop, L: LruList + Drop, const TYPE: u8> Arrays<K, V, L, TYPE> 
     }
 }
 
-/// The pairs of a table by value that are left, those behind a place. Dropping it drops these pairs
-/// and the memory of the slots.
+/// The remaining pairs of a table by value: those after a place. Dropping it drops these pairs and
+/// the memory of the slots.
 ///
-/// If `is_counted`, `rest` is the number of pairs that are left.
+/// If `is_counted`, `rest` is the number of remaining pairs.
 #[derive(Drop)]
 pub struct TableDrain<K, V, L: LruList, const TYPE: u8> {
     arrays: Arrays<K, V, L, TYPE>,
@@ -67,8 +67,8 @@ impl<K: Drop, V: Drop, L: LruList + Drop, const TYPE: u8> Iterator for TableDrai
         taken
     }
 
-    /// The number of pairs that are left, as both bounds; none where the table had 2^64 - 1 pairs
-    /// or more.
+    /// The number of remaining pairs, as both bounds. There is no upper bound if the table had
+    /// 2^64 - 1 pairs or more.
     ///
     /// O(1).
     fn size_hint(&self) -> (usize, Option<usize>) {
@@ -83,7 +83,7 @@ impl<K: Drop, V: Drop, L: LruList + Drop, const TYPE: u8> FusedIterator
     for TableDrain<K, V, L, TYPE> {}
 
 impl<K: Drop, V: Drop, L: LruList, const TYPE: u8> Arrays<K, V, L, TYPE> {
-    /// Takes out the first pair behind a place.
+    /// Takes out the first pair after a place.
     fn take_next(&mut self, index: &mut usize, at: &mut EntryPtr<K, V, TYPE>) -> Option<(K, V)>
         requires not_index { TYPE ≢ INDEX }
         ensures { YieldsFirst (λ left. left) (pairs_from (row_of self.old) index.old at.old) result
@@ -101,8 +101,8 @@ impl<K: Drop, V: Drop, L: LruList, const TYPE: u8> Arrays<K, V, L, TYPE> {
 }
 
 impl<K, V, L: LruList, const TYPE: u8> Arrays<K, V, L, TYPE> {
-    /// Takes both arrays out, and begins with all pairs, of which there are `count`. The tickets
-    /// are dropped.
+    /// Takes both arrays out, and begins with all their pairs, of which there are `count`. The
+    /// tickets are dropped.
     pub(crate) fn drain(&mut self, count: usize) -> TableDrain<K, V, L, TYPE>
         requires not_index { TYPE ≢ INDEX }
         requires count { count ≡ counted_to (pairs_of self.old) }

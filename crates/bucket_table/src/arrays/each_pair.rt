@@ -1,4 +1,4 @@
-//! A function called with each pair of the arrays, or of one bucket of theirs.
+//! Calls of a function with each pair of the arrays, or of one of their buckets.
 ghost use Rattle.std.specs.Prelude.{◌<◌, ◌^◌, ◌↔◌, IsTrue, length};
 ghost use Rattle.bucket_slots.specs.ArrayView.{bucket_at};
 ghost use Rattle.bucket_slots.specs.BucketView.{pairs_in};

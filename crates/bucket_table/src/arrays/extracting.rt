@@ -1,4 +1,4 @@
-//! Taking pairs out of the arrays one after another, as a function picks them.
+//! Taking those pairs out of the arrays, one by one, that a function picks.
 ghost use Rattle.std.specs.Prelude.{◌≡◌, ◌≢◌, ◌≤◌, ◌<◌, [], IfSome, IsTrue, Some, length};
 ghost use Rattle.bucket_slots.specs.ArrayView.{bucket_at};
 ghost use Rattle.bucket_slots.specs.BucketView.{slot_in};
@@ -18,10 +18,9 @@ use bucket_slots::lru::LruList;
 use std::marker::Model;
 use std::mem;
 
-/// A table's arrays, and the place behind which `pick` wasn't called yet. Dropping it drops the
-/// arrays.
+/// A table's arrays, and the place up to which `pick` was called. Dropping it drops the arrays.
 ///
-/// If `is_counted`, no more than `most` pairs are behind the place.
+/// If `is_counted`, at most `most` pairs are after the place.
 #[derive(Drop)]
 pub struct TableExtract<K, V, L: LruList, const TYPE: u8> {
     arrays: Arrays<K, V, L, TYPE>,
@@ -49,10 +48,11 @@ impl<K, V, L: LruList, const TYPE: u8> Model for TableExtract<K, V, L, TYPE> {
 }
 
 impl<K: Drop, V: Drop, L: LruList, const TYPE: u8> TableExtract<K, V, L, TYPE> {
-    /// Calls `pick` with the pairs that are left, in turn, each pair's value lent for writing, up
-    /// to the first for which it returns true, and takes that one out; `None` if there is none.
+    /// Calls `pick` with the remaining pairs in turn, with each value lent for writing, up to the
+    /// first for which it returns true. Takes that pair out and returns it, or returns `None` if
+    /// there is none.
     ///
-    /// Takes no memory. O(pairs and buckets passed), and the calls of `pick`. Own.
+    /// Allocates nothing itself. O(pairs and buckets passed), plus the calls of `pick`.
     pub fn extract_next<F: FnMut(&K, &mut V) -> bool>(&mut self, pick: &mut F) -> Option<(K, V)>
         requires callable { F.IsAlwaysCallable pick.old }
         ensures again { F.IsAlwaysCallable pick.new }
@@ -76,10 +76,10 @@ impl<K: Drop, V: Drop, L: LruList, const TYPE: u8> TableExtract<K, V, L, TYPE> {
 }
 
 impl<K, V, L: LruList, const TYPE: u8> TableExtract<K, V, L, TYPE> {
-    /// Returns a bound on the number of pairs that are left, unless the table had 2^64 - 1 pairs or
-    /// more: each call of the function takes one off.
+    /// Returns an upper bound on the number of remaining pairs, or `None` if the table had 2^64 - 1
+    /// pairs or more. Each call of `pick` lowers it by one.
     ///
-    /// O(1). Own.
+    /// O(1).
     pub fn most_left(&self) -> Option<usize>
         ensures { IfSome result (λ most. length self.now.left ≤ most) }
     {
@@ -89,7 +89,7 @@ impl<K, V, L: LruList, const TYPE: u8> TableExtract<K, V, L, TYPE> {
         None
     }
 
-    /// Exchanges its arrays for others. The place has no meaning then.
+    /// Exchanges its arrays for others. The place is then meaningless.
     pub(crate) fn swap_arrays(&mut self, arrays: &mut Arrays<K, V, L, TYPE>)
         ensures there { arrays.new ≡ self.old.arrays }
     {
@@ -98,8 +98,8 @@ impl<K, V, L: LruList, const TYPE: u8> TableExtract<K, V, L, TYPE> {
     }
 }
 
-/// Calls `pick` with the pair in a live slot of a bucket of the row, and takes it out if it returns
-/// true.
+/// Calls `pick` with the pair in a live slot of a bucket of the row, and takes the pair out if it
+/// returns true.
 #[inline(always)]
 fn ask_at<K: Drop, V: Drop, L: LruList, F: FnMut(&K, &mut V) -> bool, const TYPE: u8>(
     arrays: &mut Arrays<K, V, L, TYPE>,
@@ -125,8 +125,8 @@ fn ask_at<K: Drop, V: Drop, L: LruList, F: FnMut(&K, &mut V) -> bool, const TYPE
 }
 
 impl<K, V, L: LruList, const TYPE: u8> Arrays<K, V, L, TYPE> {
-    /// Takes both arrays out with their tickets, and begins with all pairs, of which there are
-    /// `count`.
+    /// Takes both arrays out with their tickets, and begins with all their pairs, of which there
+    /// are `count`.
     pub(crate) fn extract(&mut self, count: usize) -> TableExtract<K, V, L, TYPE>
         requires not_index { TYPE ≢ INDEX }
         requires count { count ≡ counted_to (pairs_of self.old) }
@@ -144,7 +144,7 @@ impl<K, V, L: LruList, const TYPE: u8> Arrays<K, V, L, TYPE> {
         }
     }
 
-    /// Takes both arrays out with their tickets; none is left.
+    /// Takes both arrays out with their tickets. No array is left.
     pub(super) fn take_out(&mut self) -> Self
         ensures taken { result ≡ self.old }
         ensures arrays { self.new

@@ -11,8 +11,8 @@ use bucket_slots::lru::LruList;
 use std::alloc::AllocError;
 
 impl<K: Eq + Drop, V: Drop, L: LruList + Drop, const TYPE: u8> Arrays<K, V, L, TYPE> {
-    /// Works the units of the old array, one after another, until that is dropped. Returns how
-    /// many.
+    /// Works the units of the old array, one after another, until it is dropped. Returns how many
+    /// units were worked.
     ///
     /// # Errors
     ///

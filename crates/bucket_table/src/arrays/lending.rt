@@ -1,4 +1,4 @@
-//! A bucket of one side, read or lent for writing.
+//! Loans of a bucket of one side, for reading or for writing.
 ghost use Rattle.std.specs.Prelude.{◌≡◌, ◌≢◌, ◌%◌, ◌<◌, IsTrue, Some, length};
 ghost use Rattle.std.specs.Borrow.{sem};
 ghost use Rattle.bucket_slots.specs.ArrayRoom.{BucketFits};
@@ -32,7 +32,7 @@ impl<K, V, L: LruList, const TYPE: u8> Arrays<K, V, L, TYPE> {
         self.array_of(side).bucket(index)
     }
 
-    /// Lends that bucket for writing.
+    /// Lends a bucket of one side for writing.
     #[inline(always)]
     pub(crate) fn bucket_of_mut(&mut self, side: Side, index: usize) -> &mut Bucket<K, V, L, TYPE>
         requires { index < length (buckets_on self.old side) }
@@ -48,7 +48,7 @@ impl<K, V, L: LruList, const TYPE: u8> Arrays<K, V, L, TYPE> {
         }
     }
 
-    /// Lends the pair in a live slot of that bucket, its value for writing.
+    /// Lends the pair in a live slot of such a bucket, with its value for writing.
     #[inline(always)]
     pub(crate) fn entry_of_mut(
         &mut self,
@@ -71,8 +71,8 @@ impl<K, V, L: LruList, const TYPE: u8> Arrays<K, V, L, TYPE> {
         }
     }
 
-    /// Makes the pair in a live slot of that bucket the one touched last there, and lends it, its
-    /// value for writing.
+    /// Makes the pair in a live slot of such a bucket the one touched last there, and lends it,
+    /// with its value for writing.
     #[inline(always)]
     pub(crate) fn touch_entry_of(
         &mut self,
@@ -126,7 +126,7 @@ fn bucket_in<K, V, L: LruList, const TYPE: u8>(
     }
 }
 
-/// Lends the pair in a live slot of a bucket of one side, its value for writing.
+/// Lends the pair in a live slot of a bucket of one side, with its value for writing.
 #[inline(always)]
 fn entry_in<'a, K, V, L: LruList, const TYPE: u8>(
     held: &'a mut Option<BucketArray<K, V, L, TYPE>>,
@@ -149,7 +149,7 @@ fn entry_in<'a, K, V, L: LruList, const TYPE: u8>(
 }
 
 /// Makes the pair in a live slot of a bucket of one side the one touched last there, and lends it,
-/// its value for writing.
+/// with its value for writing.
 #[inline(always)]
 fn touch_entry_in<'a, K, V, L: LruList, const TYPE: u8>(
     held: &'a mut Option<BucketArray<K, V, L, TYPE>>,
@@ -172,7 +172,7 @@ fn touch_entry_in<'a, K, V, L: LruList, const TYPE: u8>(
     }
 }
 
-/// Makes the pair in a live slot of a bucket of one side the one touched last in its bucket.
+/// Makes the pair in a live slot of a bucket of one side the one touched last there.
 #[inline(always)]
 pub(super) fn touch_in<K, V, L: LruList, const TYPE: u8>(
     held: &mut Option<BucketArray<K, V, L, TYPE>>,
@@ -216,7 +216,7 @@ pub(super) fn insert_in<K: Eq + Drop, V: Drop, L: LruList, G: Generation, const 
     }
 }
 
-/// Inserts a pair into a bucket of one side, or writes its value beside the equal key.
+/// Inserts a pair into a bucket of one side, or replaces the value if the key is there.
 #[inline(always)]
 pub(super) fn upsert_in<K: Eq + Drop, V: Drop, L: LruList, G: Generation, const TYPE: u8>(
     held: &mut Option<BucketArray<K, V, L, TYPE>>,
@@ -238,7 +238,7 @@ pub(super) fn upsert_in<K: Eq + Drop, V: Drop, L: LruList, G: Generation, const 
     }
 }
 
-/// Takes the first pair that a probe wants out of a bucket of one side.
+/// Takes the first pair that matches a probe out of a bucket of one side.
 #[inline(always)]
 pub(super) fn take_in<K: Drop, V: Drop, L: LruList, P: KeyProbe<K>, const TYPE: u8>(
     held: &mut Option<BucketArray<K, V, L, TYPE>>,

@@ -1,4 +1,4 @@
-//! Where a pair is found: look-ups that change nothing, and the slot of a wanted key.
+//! Look-ups that change nothing, of a pair or of the slot that it is in.
 ghost use Rattle.std.specs.Prelude.{◌≡◌, ◌%◌, ◌+◌, ◌≤◌, None, IfSome, IfNone};
 ghost use Rattle.bucket_slots.specs.Places.{pair_lent};
 ghost use Rattle.bucket_slots.specs.Searching.{matching_len, pair_wanted};
@@ -17,14 +17,14 @@ use bucket_slots::lru::LruList;
 pub struct Spot<K, V, const TYPE: u8> {
     /// The side.
     pub side: Side,
-    /// The bucket's number there.
+    /// The bucket's index in the array of that side.
     pub index: usize,
     /// The slot's place in the bucket.
     pub at: EntryPtr<K, V, TYPE>,
 }
 
 impl<K, V, L: LruList, const TYPE: u8> Arrays<K, V, L, TYPE> {
-    /// Returns the first wanted pair of the old home of a hash, else of its current home. It asks
+    /// Returns the first matching pair of the old home of a hash, else of its current home. It asks
     /// at most once for each live slot there with the hash's fingerprint.
     #[inline(always)]
     pub(crate) fn peek_by<P: KeyProbe<K>>(&self, hash: u64, probe: &mut P) -> Option<(&K, &V)>
@@ -52,8 +52,8 @@ impl<K, V, L: LruList, const TYPE: u8> Arrays<K, V, L, TYPE> {
         }
     }
 
-    /// Returns the first live slot with a wanted key in the home of a hash on one side; `None`
-    /// where that home has none.
+    /// Returns the first live slot with a matching key in the home of a hash on one side, or `None`
+    /// if that home has none.
     #[inline(always)]
     pub(crate) fn search_on<P: KeyProbe<K>>(
         &self,
@@ -82,11 +82,11 @@ impl<K, V, L: LruList, const TYPE: u8> Arrays<K, V, L, TYPE> {
     }
 }
 
-/// Returns the first wanted pair of the home of a hash in the old array, else of its home in the
-/// current one; `None` where neither has one.
+/// Returns the first matching pair of the home of a hash in the old array, else of its home in the
+/// current one, or `None` if neither has one.
 ///
-/// Asks at most once for each live slot of the two homes with the hash's fingerprint. Takes no
-/// memory. O(blocks in two chains). Own.
+/// Asks at most once for each live slot of the two homes with the hash's fingerprint. Allocates
+/// nothing. O(blocks in two chains).
 #[inline(always)]
 pub fn peek_arrays<'a, K, V, L: LruList, const TYPE: u8, P: KeyProbe<K>>(
     old: Option<&'a BucketArray<K, V, L, TYPE>>,
@@ -109,7 +109,7 @@ pub fn peek_arrays<'a, K, V, L: LruList, const TYPE: u8, P: KeyProbe<K>>(
     }
 }
 
-/// Returns the first wanted pair of the home of a hash.
+/// Returns the first matching pair of the home of a hash.
 #[inline(always)]
 fn peek_home<'a, K, V, L: LruList, const TYPE: u8, P: KeyProbe<K>>(
     array: &'a BucketArray<K, V, L, TYPE>,

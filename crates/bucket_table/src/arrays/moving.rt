@@ -1,4 +1,4 @@
-//! What moves pairs: an old bucket goes to its homes in the current array, and is killed.
+//! Moving pairs: those of an old bucket move to their homes in the current array, and it is killed.
 //!
 //! Ports `relocate_bucket` of scc's `src/hash_table.rs`.
 ghost use Rattle.std.specs.Prelude.{false, ◌≡◌, ◌+◌, ◌<◌, ◌≤◌, true, IsOk, OnOk, OnErr, length, []};
@@ -32,8 +32,8 @@ use bucket_slots::lru::LruList;
 use std::alloc::{AllocError, Global};
 
 impl<K: Eq + Drop, V: Drop, L: LruList + Drop, const TYPE: u8> Arrays<K, V, L, TYPE> {
-    /// Moves the pairs of an old bucket to their homes in the current array, and kills it. The LRU
-    /// order moves along.
+    /// Moves the pairs of an old bucket to their homes in the current array, with the LRU order,
+    /// and kills the bucket.
     ///
     /// # Errors
     ///
@@ -63,8 +63,8 @@ impl<K: Eq + Drop, V: Drop, L: LruList + Drop, const TYPE: u8> Arrays<K, V, L, T
         relocate(self.alloc, hasher, current, linked, index)
     }
 
-    /// Moves the old buckets from `start` up to below `end`, one after another. Returns true if all
-    /// have moved, and false once allocation fails.
+    /// Moves the old buckets from `start` up to but not including `end`, one after another. Returns
+    /// true if all have moved, and false once allocation fails.
     pub(crate) fn relocate_range<H: KeyHash<K>>(
         &mut self,
         hasher: &H,
@@ -88,21 +88,21 @@ impl<K: Eq + Drop, V: Drop, L: LruList + Drop, const TYPE: u8> Arrays<K, V, L, T
     }
 }
 
-/// Up to this number of targets, pairs are counted without memory.
+/// The greatest number of targets for which pairs are counted without allocating.
 const COUNTED_TARGETS: usize = 8;
 
-/// Where the pair of an own slot has landed: the index of a bucket, and an own slot of it.
+/// Where the pair of an own slot has moved: the index of a bucket, and an own slot of it.
 #[derive(Clone, Copy)]
 pub(crate) struct Landing {
     home: usize,
     slot: usize,
 }
 
-/// Moves the pairs of an old bucket to their homes in the current array, and kills it. A bucket
-/// that is killed already stays as it is.
+/// Moves the pairs of an old bucket to their homes in the current array, and kills the bucket. A
+/// bucket that is killed already stays as it is.
 ///
-/// Slots are reserved in all targets before a pair moves, if the old array is longer or the bucket
-/// has more pairs than an empty target has own slots. The LRU order moves along.
+/// If the old array is longer, or the bucket has more pairs than an empty target has own slots,
+/// slots are reserved in all targets before a pair moves. The LRU order moves with the pairs.
 ///
 /// # Errors
 ///
@@ -146,8 +146,8 @@ pub(crate) fn relocate<K: Eq + Drop, V: Drop, H: KeyHash<K>, L: LruList, const T
     Ok(())
 }
 
-/// Reserves a slot for each pair of a bucket in its home, one of the buckets from `start` up to
-/// below `end`.
+/// Reserves a slot for each pair of a bucket in its home, which is one of the buckets from `start`
+/// up to but not including `end`.
 fn reserve_targets<K: Eq + Drop, V: Drop, H: KeyHash<K>, L: LruList, const TYPE: u8>(
     alloc: Global,
     hasher: &H,
@@ -183,7 +183,7 @@ fn reserve_targets<K: Eq + Drop, V: Drop, H: KeyHash<K>, L: LruList, const TYPE:
     reserve_each(current, start, &counts)
 }
 
-/// Counts the pairs of a bucket by their homes, from the bucket `start` of an array on.
+/// Counts the pairs of a bucket by their homes, starting at bucket `start` of an array.
 fn count_targets<K: Eq, V, H: KeyHash<K>, L: LruList, const TYPE: u8>(
     hasher: &H,
     current: &BucketArray<K, V, L, TYPE>,
@@ -207,7 +207,8 @@ fn count_targets<K: Eq, V, H: KeyHash<K>, L: LruList, const TYPE: u8>(
     }
 }
 
-/// Reserves slots in the buckets of an array from `start` on, in each as many as `counts` says.
+/// Reserves slots in the buckets of an array from `start` on, in each bucket as many as `counts`
+/// says.
 fn reserve_each<K: Drop, V: Drop, L: LruList, const TYPE: u8>(
     current: &mut BucketArray<K, V, L, TYPE>,
     start: usize,
@@ -229,11 +230,11 @@ fn reserve_each<K: Drop, V: Drop, L: LruList, const TYPE: u8>(
     Ok(())
 }
 
-/// Moves each pair of a bucket to its home in an array that has room for it, one of the buckets
-/// from `start` up to below `end`, and its LRU order with it.
+/// Moves each pair of a bucket to its home in an array that has room for it, which is one of the
+/// buckets from `start` up to but not including `end`. The LRU order moves with the pairs.
 ///
-/// The listed pairs that land in own slots are listed there behind their bucket's own, in the order
-/// in which they were listed. A pair that lands in a chain isn't listed.
+/// A listed pair that lands in an own slot is listed there after that bucket's own pairs, and the
+/// moved pairs keep their order. A pair that lands in a chain isn't listed.
 fn carry_pairs<K: Eq + Drop, V: Drop, H: KeyHash<K>, L: LruList, const TYPE: u8>(
     hasher: &H,
     current: &mut BucketArray<K, V, L, TYPE>,
@@ -259,9 +260,9 @@ fn carry_pairs<K: Eq + Drop, V: Drop, H: KeyHash<K>, L: LruList, const TYPE: u8>
     append_arrivals(current, &order[..len], &landings);
 }
 
-/// Moves each pair of a bucket to its home in an array that has room for it, one of the buckets
-/// from `start` up to below `end`. Says in `landings` of as many own slots of the bucket as there
-/// is room for where their pairs landed, and nothing of a pair that landed in a chain.
+/// Moves each pair of a bucket to its home in an array that has room for it, which is one of the
+/// buckets from `start` up to but not including `end`. Records the new place of each own slot's
+/// pair in `landings`, as far as it has room. A pair that lands in a chain is not recorded.
 #[tactic(auto, using(crate::proofs::Walking::Retaining::next_live))]
 fn move_pairs<K: Eq + Drop, V: Drop, H: KeyHash<K>, L: LruList, const TYPE: u8>(
     hasher: &H,
@@ -291,7 +292,7 @@ fn move_pairs<K: Eq + Drop, V: Drop, H: KeyHash<K>, L: LruList, const TYPE: u8>(
     }
 }
 
-/// Moves the pair at a pointer to its home, and says in `landings` where it landed. The pointer
+/// Moves the pair at a pointer to its home, and records its new place in `landings`. The pointer
 /// stays.
 #[inline(always)]
 #[tactic(auto, using(crate::proofs::Words::live_not_free))]
@@ -320,8 +321,8 @@ fn move_pair<K: Eq + Drop, V: Drop, H: KeyHash<K>, L: LruList, const TYPE: u8>(
     say_landing(landings, at, home, &to);
 }
 
-/// Says in `landings` where a pair landed that moved from an own slot to one of bucket `home`, if
-/// there is room for it.
+/// Records in `landings`, if there is room, where a pair landed that moved from an own slot to
+/// bucket `home`, if that is an own slot.
 #[inline(always)]
 fn say_landing<K, V, const TYPE: u8>(
     landings: &mut [Option<Landing>],
@@ -338,8 +339,8 @@ fn say_landing<K, V, const TYPE: u8>(
     }
 }
 
-/// Lists own slots of an array behind those that their buckets list: those in which the pairs of
-/// the slots of an order landed, in that order.
+/// Appends own slots of an array to the LRU lists of their buckets: those in which the pairs of the
+/// slots of an order landed, in that order.
 fn append_arrivals<K: Eq + Drop, V: Drop, L: LruList, const TYPE: u8>(
     current: &mut BucketArray<K, V, L, TYPE>,
     order: &[u8],
@@ -361,9 +362,9 @@ fn append_arrivals<K: Eq + Drop, V: Drop, L: LruList, const TYPE: u8>(
     }
 }
 
-/// Returns the index of the home of a slot's pair in an array, and a number whose low byte is its
-/// fingerprint. If `start` is the only target, the stored fingerprint is enough; else the key is
-/// hashed again.
+/// Returns the index of the home of a slot's pair in an array, and a number whose low byte is the
+/// pair's fingerprint. If `start` is the only target, the stored fingerprint is enough; otherwise
+/// the key is hashed again.
 #[inline(always)]
 fn way_of<K: Eq, V, H: KeyHash<K>, L: LruList, const TYPE: u8>(
     hasher: &H,

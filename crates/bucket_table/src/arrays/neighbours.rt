@@ -1,4 +1,4 @@
-//! Whether a resize is tried near a bucket, from the few buckets of the small sample.
+//! Whether a resize is tried near a bucket, judged by the few buckets of the small sample.
 ghost use Rattle.std.specs.Prelude.{ℕ, [], ◌≡◌, ◌<◌, ◌↔◌, IsTrue, length};
 ghost use Rattle.bucket_table.specs.Resize.Sampling.{IsCrowded, IsDeserted, live_counts};
 ghost use Rattle.bucket_table.specs.Views.ArraysView.{ArePlaced};
@@ -31,7 +31,7 @@ impl<K: Drop, V: Drop, L: LruList + Drop, const TYPE: u8> Arrays<K, V, L, TYPE> 
         let _ = self.try_resize();
     }
 
-    /// Does the same if a bucket has no live pair left.
+    /// Does what `try_shrink` does if a bucket has no live pair left.
     #[inline(always)]
     pub(crate) fn shrink_emptied(&mut self, side: Side, index: usize)
         requires within { index < length (buckets_on self.old side) }
@@ -45,8 +45,9 @@ impl<K: Drop, V: Drop, L: LruList + Drop, const TYPE: u8> Arrays<K, V, L, TYPE> 
         self.shrink_left(side, index, left, None);
     }
 
-    /// Does the same if `left`, the number of live pairs left in a bucket, is 0; with the number of
-    /// pairs that the arrays have, only if that agrees, as `shrink_to` says.
+    /// Does what `try_shrink` does if `left`, the number of live pairs left in a bucket, is 0. If
+    /// the number of pairs in the arrays is given, it shrinks only if that agrees, as `shrink_to`
+    /// does.
     #[inline(always)]
     pub(crate) fn shrink_left(
         &mut self,
@@ -97,7 +98,7 @@ impl<K, V, L: LruList, const TYPE: u8> Arrays<K, V, L, TYPE> {
     }
 }
 
-/// Returns whether near this index many slots are live.
+/// Returns whether many slots near this index are live.
 fn is_crowded<K, V, L: LruList, const TYPE: u8>(
     array: &BucketArray<K, V, L, TYPE>,
     index: usize,
@@ -110,7 +111,7 @@ fn is_crowded<K, V, L: LruList, const TYPE: u8>(
     BucketArray::<K, V, L, TYPE>::need_enlarge(size * BUCKET_LEN, live)
 }
 
-/// Returns whether near this index few slots are live.
+/// Returns whether few slots near this index are live.
 fn is_deserted<K, V, L: LruList, const TYPE: u8>(
     array: &BucketArray<K, V, L, TYPE>,
     index: usize,

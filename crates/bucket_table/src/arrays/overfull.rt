@@ -1,4 +1,4 @@
-//! The growth that one bucket starts, which has far more pairs than own slots.
+//! The growth caused by one bucket that has far more pairs than own slots.
 ghost use Rattle.std.specs.Prelude.{◌≡◌, ◌<◌, ◌↔◌, ℕ, IsTrue, Ok, length, true};
 ghost use Rattle.bucket_slots.specs.Homes.{IsHome};
 ghost use Rattle.bucket_table.specs.Map.Counting.{counted_to};
@@ -13,13 +13,14 @@ use bucket_slots::bucket::BUCKET_LEN;
 use bucket_slots::lru::LruList;
 use std::alloc::AllocError;
 
-/// How many live pairs make a bucket overfull: one and a half for each own slot.
+/// The number of live pairs that makes a bucket overfull: one and a half for each own slot.
 const OVERFULL_LEN: usize = BUCKET_LEN / 2 * 3;
 
 const _: () = prove!(OVERFULL_LEN == 48);
 
 impl<K, V, L: LruList, const TYPE: u8> Arrays<K, V, L, TYPE> {
-    /// Returns whether no old array stands, and the home of a hash has pairs enough to be overfull.
+    /// Returns whether there is no old array, and the home of a hash has enough pairs to be
+    /// overfull.
     #[inline(always)]
     pub(crate) fn has_full_home(&self, hash: u64) -> bool
         ensures { IsTrue result ↔ HasFullHome hash self.now }
@@ -35,8 +36,8 @@ impl<K, V, L: LruList, const TYPE: u8> Arrays<K, V, L, TYPE> {
         self.bucket_of(Side::Current, index).len() >= OVERFULL_LEN
     }
 
-    /// Returns whether no old array stands, the home of a hash has as many pairs as own slots, and
-    /// twice the slots pass no maximum.
+    /// Returns whether there is no old array, the home of a hash has as many pairs as own slots,
+    /// and twice the slots do not exceed the maximum.
     #[inline(always)]
     fn may_split(&self, hash: u64) -> bool
         ensures { IsTrue result ↔ MaySplit hash self.now }
@@ -69,9 +70,9 @@ impl<K, V, L: LruList, const TYPE: u8> Arrays<K, V, L, TYPE> {
 }
 
 impl<K: Drop, V: Drop, L: LruList + Drop, const TYPE: u8> Arrays<K, V, L, TYPE> {
-    /// Makes an empty array of twice the slots the current one, and the current one the old one,
-    /// where there are so many pairs, if that is a pair for each 8 slots, and twice the slots pass
-    /// no maximum. Returns whether it did.
+    /// Makes the current array the old one, and an empty array of twice its slots the current one,
+    /// if `count` is at least a pair for each 8 slots, and twice the slots do not exceed the
+    /// maximum. Returns whether it did.
     ///
     /// # Errors
     ///
@@ -99,9 +100,9 @@ impl<K: Drop, V: Drop, L: LruList + Drop, const TYPE: u8> Arrays<K, V, L, TYPE> 
         }
     }
 
-    /// Makes an empty array of twice the slots the current one, and the current one the old one,
+    /// Makes the current array the old one, and an empty array of twice its slots the current one,
     /// if the home of a hash has as many pairs as own slots, there is no old array, and twice the
-    /// slots do not pass the maximum. Returns whether it did.
+    /// slots do not exceed the maximum. Returns whether it did.
     ///
     /// # Errors
     ///

@@ -1,7 +1,7 @@
 //! An iterator over the pairs of the arrays, in the order of their view.
 //!
 //! The type ends in a parameter that no field holds. In `next` it is a borrow of the kind of table,
-//! which tells the borrow checker that TYPE lives as long as the buckets.
+//! from which the borrow checker knows that TYPE lives as long as the buckets.
 ghost use Rattle.std.specs.Prelude.{◌≡◌, ◌-◌, ◌^◌, length, min};
 ghost use Rattle.std.specs.Iterator.{YieldsFirstBy, item_count};
 ghost use Rattle.bucket_table.specs.Map.Counting.{counted_to};
@@ -16,14 +16,14 @@ use std::iter::FusedIterator;
 use std::marker::{Model, PhantomData};
 use std::slice;
 
-/// Stands for a kind of table in a type.
+/// Represents a kind of table in a type.
 pub struct Kind<const TYPE: u8> {}
 
-/// The pairs of the arrays that are left, those behind a place.
+/// The remaining pairs of the arrays: those after a place.
 ///
-/// `here` and `left` keep what is read of the place's bucket once for all of its pairs: the bucket,
-/// alone in a slice, and its live own slots behind the place. Where `left` is 0, they say nothing.
-/// If `is_counted`, `rest` is the number of pairs that are left.
+/// `here` and `left` cache what is read of the current bucket, for all of its pairs: the bucket, as
+/// a slice of one element, and its live own slots after the place. If `left` is 0, both are
+/// meaningless. If `is_counted`, `rest` is the number of remaining pairs.
 #[derive(Drop)]
 pub struct ArraysPairs<'a, K, V, L: LruList, const TYPE: u8, R> {
     arrays: &'a Arrays<K, V, L, TYPE>,
@@ -36,7 +36,7 @@ pub struct ArraysPairs<'a, K, V, L: LruList, const TYPE: u8, R> {
     loan: PhantomData<R>,
 }
 
-/// The pairs of a table that are left.
+/// The remaining pairs of a table.
 pub type TablePairs<'a, K, V, L, const TYPE: u8> = ArraysPairs<'a, K, V, L, TYPE, &'a Kind<TYPE>>;
 
 impl<'a, K, V, L: LruList, const TYPE: u8, R> Model for ArraysPairs<'a, K, V, L, TYPE, R> {
@@ -81,8 +81,8 @@ impl<'a, K, V, L: LruList, const TYPE: u8> Iterator
         Some(bucket.entry(&self.at))
     }
 
-    /// The number of pairs that are left, as both bounds; none where the table had 2^64 - 1 pairs
-    /// or more.
+    /// The number of remaining pairs, as both bounds. There is no upper bound if the table had
+    /// 2^64 - 1 pairs or more.
     ///
     /// O(1).
     fn size_hint(&self) -> (usize, Option<usize>) {
@@ -128,9 +128,9 @@ impl<'a, K, V, L: LruList, const TYPE: u8> ArraysPairs<'a, K, V, L, TYPE, &'a Ki
         }
     }
 
-    /// Returns how many pairs are left, at most 2^64 - 1.
+    /// Returns the number of remaining pairs, at most 2^64 - 1.
     ///
-    /// O(slots that are left).
+    /// O(remaining slots).
     pub fn count_left(&self) -> usize
         ensures { result ≡ min (length self.now) (2 ^ 64 - 1) }
     {
@@ -143,7 +143,7 @@ impl<'a, K, V, L: LruList, const TYPE: u8> ArraysPairs<'a, K, V, L, TYPE, &'a Ki
     }
 }
 
-/// Takes no memory, and can't fail.
+/// Allocates nothing and can't fail.
 impl<'a, K, V, L: LruList, const TYPE: u8> Clone
     for ArraysPairs<'a, K, V, L, TYPE, &'a Kind<TYPE>> {
     ghost is_clone = { λ own copy. copy ≡ own };

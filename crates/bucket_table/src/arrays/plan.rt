@@ -1,4 +1,4 @@
-//! What a resize does, decided from estimates alone.
+//! The plan of a resize, which depends only on estimates.
 ghost use Rattle.std.specs.Prelude.{◌≡◌, ◌*◌, ◌^◌, ◌≤◌, ◌↔◌, ℕ, List, IsTrue, length};
 ghost use Rattle.std.specs.List.{All};
 ghost use Rattle.bucket_slots.specs.Sizing.{IsOptimalCapacity, IsPowerIn};
@@ -14,7 +14,7 @@ use bucket_slots::lru::LruList;
 /// What a resize does.
 #[derive(Drop)]
 pub enum Plan {
-    /// Nothing.
+    /// Nothing changes.
     Keep,
     /// The array is dropped.
     GiveUp,
@@ -22,7 +22,7 @@ pub enum Plan {
     Resize(usize),
 }
 
-/// Returns what a resize does to an array.
+/// Returns the plan for an array.
 pub(crate) fn plan_of<K, V, L: LruList, const TYPE: u8>(
     array: &BucketArray<K, V, L, TYPE>,
     minimum: usize,
@@ -50,7 +50,7 @@ pub(crate) fn plan_of<K, V, L: LruList, const TYPE: u8>(
     plan_by_middle(array, large, minimum, maximum)
 }
 
-/// Returns what a resize does by the full sample.
+/// Returns the plan for an array by the full sample.
 fn plan_by_middle<K, V, L: LruList, const TYPE: u8>(
     array: &BucketArray<K, V, L, TYPE>,
     large: usize,
@@ -102,7 +102,7 @@ fn is_empty<K, V, L: LruList, const TYPE: u8>(array: &BucketArray<K, V, L, TYPE>
     true
 }
 
-/// States that there is one plan for an array; does nothing at run time.
+/// States that an array has only one plan; does nothing at run time.
 pub(crate) fn plans_are_one()
     ensures { (counts : List ℕ) (minimum maximum : ℕ) (plan other : Plan)
         → IsPlan counts minimum maximum plan

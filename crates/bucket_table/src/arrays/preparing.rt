@@ -1,4 +1,4 @@
-//! Making a current bucket ready: its pairs move to it from the old array.
+//! Making a current bucket ready, by moving its pairs from the old array to it.
 ghost use Rattle.std.specs.Prelude.{◌≡◌, ◌<◌, Err, IfErr, IsOk, OnErr, OnOk, length};
 ghost use Rattle.bucket_slots.specs.Homes.{IsHome};
 ghost use Rattle.bucket_table.specs.Views.ArraysView.{ArePlaced, AreSourcesKilled, IsSource};
@@ -17,7 +17,7 @@ impl<K: Eq + Drop, V: Drop, L: LruList + Drop, const TYPE: u8> Arrays<K, V, L, T
     ///
     /// # Errors
     ///
-    /// There is no current array; or allocation failed: a source isn't killed.
+    /// There is no current array, or allocation failed: a source isn't killed.
     #[inline(always)]
     pub(crate) fn fetch_home<H: KeyHash<K>>(&mut self, hasher: &H, hash: u64) -> Result<(), Missing>
         requires placed { ArePlaced (H.hash_of hasher.now) self.old }

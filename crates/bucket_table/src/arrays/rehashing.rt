@@ -1,4 +1,4 @@
-//! The tickets of a rehash, and its arrays.
+//! The tickets of a rehash, and the arrays.
 ghost use Rattle.std.specs.Prelude.{◌≡◌, ◌^◌, ◌<◌, ◌↔◌, IsTrue};
 ghost use Rattle.bucket_table.specs.Views.ArraysView.{LosesNoUnit, entries_of};
 ghost use Rattle.bucket_table.specs.Views.ArraysView.{killed_flags, list_of};
@@ -13,7 +13,7 @@ use bucket_slots::bucket_array::BucketArray;
 use bucket_slots::lru::LruList;
 
 impl<K, V, L: LruList, const TYPE: u8> Arrays<K, V, L, TYPE> {
-    /// Hands out the next unit of the old array, and returns its ticket.
+    /// Issues the next unit of the old array, and returns its ticket.
     pub fn start_incremental_rehash(&mut self) -> Option<usize>
         ensures tickets { Starts self.old.tickets result self.new.tickets }
         ensures others { self.new ≡ record self.old { tickets = self.new.tickets } }
@@ -21,8 +21,8 @@ impl<K, V, L: LruList, const TYPE: u8> Arrays<K, V, L, TYPE> {
         self.tickets.start()
     }
 
-    /// Ends every ticket, so that each unit is to be handed out again. A killed bucket has no pair
-    /// left, so no pair is lost.
+    /// Ends every ticket, so that each unit will be issued again. A killed bucket has no pair left,
+    /// so no pair is lost.
     pub(crate) fn reset_tickets(&mut self)
         ensures { self.new ≡ unopened self.old }
     {

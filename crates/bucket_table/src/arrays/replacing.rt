@@ -10,7 +10,8 @@ use bucket_slots::bucket::EntryPtr;
 use bucket_slots::lru::LruList;
 
 impl<K: Drop, V: Drop, L: LruList, const TYPE: u8> Arrays<K, V, L, TYPE> {
-    /// Replaces the pair in a live slot by another one, under `hash`, and returns the earlier one.
+    /// Replaces the pair in a live slot by another one, under `hash`, and returns the previous
+    /// pair.
     pub(crate) fn replace_slot(
         &mut self,
         side: Side,

@@ -1,4 +1,4 @@
-//! A resize: by its plan the current array becomes the old one, or is dropped.
+//! Resizes: by the plan, the current array becomes the old one or is dropped.
 ghost use Rattle.std.specs.Prelude.{◌≡◌, ◌<◌, ◌≤◌, ◌+◌, ◌-◌, ◌*◌, ◌^◌};
 ghost use Rattle.std.specs.Prelude.{ℕ, [], length, IfOk, OnOk, OnErr};
 ghost use Rattle.bucket_slots.specs.ArrayView.{IsNewArray};
@@ -58,9 +58,9 @@ impl<K: Drop, V: Drop, L: LruList + Drop, const TYPE: u8> Arrays<K, V, L, TYPE> 
         }
     }
 
-    /// Shrinks as `try_shrink` does, if so many pairs are less than an eighth of the slots: if the
-    /// buckets near this index have few live slots, and the plan of a resize is an array with fewer
-    /// slots, or none. The new array has at least two slots for each of the pairs.
+    /// Shrinks as `try_shrink` does, if `pairs` is less than an eighth of the slots, the buckets
+    /// near this index have few live slots, and the plan of a resize is an array with fewer slots,
+    /// or none. The new array has at least two slots for each of the pairs.
     ///
     /// If allocation fails, nothing changes.
     #[inline(never)]
@@ -86,11 +86,11 @@ impl<K: Drop, V: Drop, L: LruList + Drop, const TYPE: u8> Arrays<K, V, L, TYPE> 
         }
     }
 
-    /// Makes an empty array for the minimum, if there is none.
+    /// Allocates an empty array for the minimum, if there is none.
     ///
     /// # Errors
     ///
-    /// Allocation failed: there is still none.
+    /// Allocation failed: there is still no array.
     #[inline(always)]
     pub(crate) fn make_array(&mut self) -> Result<(), AllocError>
         ensures made { OnOk result (MakesArray self.old self.new) }
@@ -103,12 +103,12 @@ impl<K: Drop, V: Drop, L: LruList + Drop, const TYPE: u8> Arrays<K, V, L, TYPE> 
         self.make_first_array(self.minimum)
     }
 
-    /// Returns other arrays: a new one alone, for a capacity that is also their minimum and their
+    /// Returns other arrays: only a new one, for a capacity that is also the minimum and the
     /// maximum.
     ///
     /// # Errors
     ///
-    /// Allocation failed, which it always does for 2^63 slots: no array has more than 2^62.
+    /// Allocation failed, as it always does for 2^63 slots: no array has more than 2^62.
     pub(crate) fn fresh(&self, capacity: usize) -> Result<Self, AllocError>
         requires power { IsPowerIn 64 (2 ^ 63) capacity }
         ensures array { IfOk result (λ fresh. IsNewArray capacity fresh.current) }
@@ -129,11 +129,11 @@ impl<K: Drop, V: Drop, L: LruList + Drop, const TYPE: u8> Arrays<K, V, L, TYPE> 
         Ok(fresh)
     }
 
-    /// Makes an empty array for a capacity.
+    /// Allocates an empty array for a capacity.
     ///
     /// # Errors
     ///
-    /// Allocation failed: there is still none.
+    /// Allocation failed: there is still no array.
     #[inline(never)]
     fn make_first_array(&mut self, capacity: usize) -> Result<(), AllocError>
         requires none { length self.old.current ≡ 0 }
@@ -148,7 +148,7 @@ impl<K: Drop, V: Drop, L: LruList + Drop, const TYPE: u8> Arrays<K, V, L, TYPE> 
         Ok(())
     }
 
-    /// Makes an empty array for a capacity the current one, and the former current one the old one.
+    /// Makes the current array the old one, and an empty array for a capacity the current one.
     ///
     /// # Errors
     ///
@@ -167,8 +167,8 @@ impl<K: Drop, V: Drop, L: LruList + Drop, const TYPE: u8> Arrays<K, V, L, TYPE> 
         }
     }
 
-    /// Raises the minimum by a number of slots, and resizes. Returns by how much it was raised: by
-    /// nothing where it would pass the maximum.
+    /// Raises the minimum by a number of slots, and resizes. Returns by how much it was raised,
+    /// which is 0 if it would exceed the maximum.
     ///
     /// If allocation fails, the arrays stay.
     pub(crate) fn reserve_capacity(&mut self, additional: usize) -> usize
@@ -184,8 +184,8 @@ impl<K: Drop, V: Drop, L: LruList + Drop, const TYPE: u8> Arrays<K, V, L, TYPE> 
         additional
     }
 
-    /// Lowers the minimum by a number of slots, and resizes. Returns by how much it was lowered: by
-    /// nothing where that exceeds it.
+    /// Lowers the minimum by a number of slots, and resizes. Returns by how much it was lowered,
+    /// which is 0 if the number exceeds the minimum.
     ///
     /// If allocation fails, the arrays stay.
     pub(crate) fn release_capacity(&mut self, released: usize) -> usize
@@ -201,7 +201,7 @@ impl<K: Drop, V: Drop, L: LruList + Drop, const TYPE: u8> Arrays<K, V, L, TYPE> 
         released
     }
 
-    /// Sets the minimum, and then resizes. If allocation fails, the arrays stay.
+    /// Sets the minimum, then resizes. If allocation fails, the arrays stay.
     fn settle(&mut self, minimum: usize)
         requires { minimum ≤ self.old.maximum }
         ensures settled { Resizes (with_minimum self.old minimum) self.new }
@@ -212,7 +212,7 @@ impl<K: Drop, V: Drop, L: LruList + Drop, const TYPE: u8> Arrays<K, V, L, TYPE> 
         let _ = self.try_resize();
     }
 
-    /// Sets the minimum, and resizes nothing.
+    /// Sets the minimum without resizing.
     pub(crate) fn set_minimum(&mut self, minimum: usize)
         requires { minimum ≤ self.old.maximum }
         ensures { self.new ≡ with_minimum self.old minimum }
@@ -228,7 +228,7 @@ impl<K: Drop, V: Drop, L: LruList + Drop, const TYPE: u8> Arrays<K, V, L, TYPE> 
         self.current = None;
     }
 
-    /// Makes an array for a capacity the current one, and the current one the old one.
+    /// Makes the current array the old one, and a new array for a capacity the current one.
     ///
     /// All memory is allocated first.
     fn push_array(&mut self, capacity: usize) -> Result<(), AllocError>

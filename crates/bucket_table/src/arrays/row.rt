@@ -1,5 +1,5 @@
-//! The buckets of both arrays in a row, those of the current one first, and a place that moves
-//! from live slot to live slot.
+//! The buckets of both arrays in a row, those of the current one first, and a place that moves from
+//! live slot to live slot.
 ghost use Rattle.std.specs.Prelude.{◌≡◌, ◌≢◌, ◌<◌, ◌≤◌, ◌^◌, [], false, IfNone};
 ghost use Rattle.std.specs.Prelude.{IfSome, IsTrue, MatchOption, length};
 ghost use Rattle.std.specs.Borrow.{sem};
@@ -19,7 +19,7 @@ use bucket_slots::lru::LruList;
 impl<K, V, L: LruList, const TYPE: u8> Arrays<K, V, L, TYPE> {
     ghost use Rattle.bucket_table.specs.Views.ArraysLoan.{LendsNth};
 
-    /// Tests whether the row has a bucket.
+    /// Returns whether the row has a bucket.
     #[inline(always)]
     pub(crate) fn has_row(&self) -> bool
         ensures some { IsTrue result → 0 < length (row_of self.now) }
@@ -29,7 +29,7 @@ impl<K, V, L: LruList, const TYPE: u8> Arrays<K, V, L, TYPE> {
         self.has_current()
     }
 
-    /// Tests whether the row has a bucket, unless it is known to have one.
+    /// Returns whether the row has a bucket. If `known` is true, it doesn't test.
     #[inline(always)]
     pub(super) fn has_row_or(&self, known: bool) -> bool
         requires { IsTrue known → 0 < length (row_of self.now) }
@@ -53,7 +53,7 @@ impl<K, V, L: LruList, const TYPE: u8> Arrays<K, V, L, TYPE> {
         }
     }
 
-    /// Returns a bucket of the row; `None` past its end.
+    /// Returns the bucket at an index of the row, or `None` past its end.
     #[inline(always)]
     pub(crate) fn nth(&self, index: usize) -> Option<&Bucket<K, V, L, TYPE>>
         ensures bucket { MatchOption result (length (row_of self.now) ≤ index) (λ bucket.
@@ -71,8 +71,8 @@ impl<K, V, L: LruList, const TYPE: u8> Arrays<K, V, L, TYPE> {
         None
     }
 
-    /// Returns the array in which a bucket of the row stands, and the bucket's index there; `None`
-    /// past the row's end.
+    /// Returns the array that has the bucket at an index of the row, and the bucket's index in that
+    /// array, or `None` past the row's end.
     #[inline(always)]
     pub(super) fn array_at(&self, index: usize) -> Option<(&BucketArray<K, V, L, TYPE>, usize)>
         ensures array { MatchOption result (length (row_of self.now) ≤ index) (λ found.
@@ -90,7 +90,7 @@ impl<K, V, L: LruList, const TYPE: u8> Arrays<K, V, L, TYPE> {
         None
     }
 
-    /// Lends that bucket for writing.
+    /// Lends the bucket at an index of the row for writing.
     #[inline(always)]
     pub(crate) fn nth_mut(&mut self, index: usize) -> &mut Bucket<K, V, L, TYPE>
         requires { index < length (row_of self.old) }
@@ -107,7 +107,7 @@ impl<K, V, L: LruList, const TYPE: u8> Arrays<K, V, L, TYPE> {
         self.bucket_of_mut(Side::Old, index - len)
     }
 
-    /// Writes the digest of a bucket of the row, which only a current one has. No bucket changes.
+    /// Refreshes the digest of a bucket of the row, if it is a current one. No bucket changes.
     #[inline(always)]
     pub(crate) fn settle_nth(&mut self, index: usize)
         ensures { self.new ≡ self.old }
@@ -117,8 +117,8 @@ impl<K, V, L: LruList, const TYPE: u8> Arrays<K, V, L, TYPE> {
         }
     }
 
-    /// Returns a bucket and its live own slots after a place, as a bitmap: the bucket that is lent
-    /// with its bitmap, or where that is 0, those that `next_own` comes to.
+    /// Returns a bucket and the bitmap of its live own slots after a place: the bucket in `here`
+    /// with the bitmap `left`, or, if `left` is 0, those that `next_own` returns.
     #[inline(always)]
     pub(super) fn own_left<'a>(
         &'a self,
@@ -139,9 +139,9 @@ impl<K, V, L: LruList, const TYPE: u8> Arrays<K, V, L, TYPE> {
         self.next_own(index, at)
     }
 
-    /// Moves a place to the bucket with the next live slot of the row, but to no live slot. Returns
-    /// that bucket and its live own slots after the place, as a bitmap. It gives up at a bucket
-    /// whose digest is lost and that has no live own slot after the place.
+    /// Moves a place to the bucket with the next live slot of the row, but not to that slot.
+    /// Returns the bucket and the bitmap of its live own slots after the place. Returns `None` at a
+    /// bucket whose digest is stale and that has no live own slot after the place.
     #[inline(always)]
     pub(super) fn next_own(
         &self,
@@ -166,7 +166,7 @@ impl<K, V, L: LruList, const TYPE: u8> Arrays<K, V, L, TYPE> {
         None
     }
 
-    /// Moves a place to the next live slot of the row, and returns that slot's bucket; `None` where
+    /// Moves a place to the next live slot of the row, and returns that slot's bucket, or `None` if
     /// there is none.
     #[inline(always)]
     pub(super) fn next_slot(
@@ -193,7 +193,8 @@ impl<K, V, L: LruList, const TYPE: u8> Arrays<K, V, L, TYPE> {
     }
 }
 
-/// Returns a bucket and its live own slots after a place, as a bitmap, if there are any.
+/// Returns a bucket and the bitmap of its live own slots after a place, or `None` if there are
+/// none.
 #[inline(always)]
 fn own_in<'a, K, V, L: LruList, const TYPE: u8>(
     bucket: &'a Bucket<K, V, L, TYPE>,

@@ -1,4 +1,4 @@
-//! Numbers of live slots of a few buckets, and estimates for an array from them.
+//! Counts of the live slots of a few buckets, and estimates for an array from them.
 ghost use Rattle.std.specs.Prelude.{◌≡◌, ◌+◌, ◌-◌, ◌^◌, ◌<◌, ◌≤◌, length, min};
 ghost use Rattle.bucket_table.specs.Resize.Sampling.{counted, estimate, live_counts};
 
@@ -6,7 +6,7 @@ use bucket_slots::bucket_array::BucketArray;
 use bucket_slots::lru::LruList;
 
 /// Returns an estimate of the number of live slots of an array: those of `size` buckets from
-/// `start` on, times as many as the array has such samples. Sum and product saturate.
+/// `start` on, times the number of such samples in the array. Sum and product saturate.
 pub(crate) fn sample<K, V, L: LruList, const TYPE: u8>(
     array: &BucketArray<K, V, L, TYPE>,
     start: usize,
@@ -20,7 +20,7 @@ pub(crate) fn sample<K, V, L: LruList, const TYPE: u8>(
     live_slots(array, start, size).saturating_mul(len / size)
 }
 
-/// Returns how many slots of `size` buckets from `start` on are live, saturating.
+/// Returns the number of live slots of `size` buckets from `start` on, saturating.
 pub(crate) fn live_slots<K, V, L: LruList, const TYPE: u8>(
     array: &BucketArray<K, V, L, TYPE>,
     start: usize,

@@ -1,4 +1,4 @@
-//! The side of a bucket: which of a table's two arrays it is of.
+//! The side of a bucket: which of a table's two arrays it belongs to.
 
 /// One of a table's two arrays.
 #[derive(Clone, Copy)]

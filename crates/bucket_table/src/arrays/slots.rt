@@ -50,7 +50,7 @@ impl<K, V, L: LruList, const TYPE: u8> Arrays<K, V, L, TYPE> {
         }
     }
 
-    /// Writes a value into a live slot, and returns the earlier one.
+    /// Writes a value into a live slot, and returns the previous one.
     #[inline(always)]
     pub(crate) fn swap_slot(
         &mut self,
@@ -69,7 +69,7 @@ impl<K, V, L: LruList, const TYPE: u8> Arrays<K, V, L, TYPE> {
         mem::replace(self.entry_of_mut(side, index, at).1, value)
     }
 
-    /// Makes the pair in a live slot a tombstone. Returns how many live pairs are left in the
+    /// Makes the pair in a live slot a tombstone. Returns the number of live pairs left in the
     /// bucket.
     pub(crate) fn mark_slot<G: Generation>(
         &mut self,
@@ -122,7 +122,7 @@ impl<K: Drop, V: Drop, L: LruList, const TYPE: u8> Arrays<K, V, L, TYPE> {
         }
     }
 
-    /// Inserts a pair into a bucket, or writes its value beside the equal key.
+    /// Inserts a pair into a bucket, or replaces the value if the key is there.
     #[inline(always)]
     pub(crate) fn upsert_home<G: Generation>(
         &mut self,
@@ -147,8 +147,8 @@ impl<K: Drop, V: Drop, L: LruList, const TYPE: u8> Arrays<K, V, L, TYPE> {
         }
     }
 
-    /// Takes the first pair that a probe wants out of a bucket. Returns it, and how many live pairs
-    /// are left there.
+    /// Takes the first pair that matches a probe out of a bucket. Returns it, and the number of
+    /// live pairs left there.
     #[inline(always)]
     pub(crate) fn take_home<P: KeyProbe<K>>(
         &mut self,
@@ -169,7 +169,7 @@ impl<K: Drop, V: Drop, L: LruList, const TYPE: u8> Arrays<K, V, L, TYPE> {
         }
     }
 
-    /// Takes the pair out of a live slot. Returns it, and how many live pairs are left in the
+    /// Takes the pair out of a live slot. Returns it, and the number of live pairs left in the
     /// bucket.
     #[inline(always)]
     pub(crate) fn take_slot(
@@ -255,7 +255,7 @@ impl<K: Drop, V: Drop, L: LruList + Drop, const TYPE: u8> Arrays<K, V, L, TYPE> 
         pair
     }
 
-    /// Takes the first pair that a probe wants out of the home of a hash on one side. If no live
+    /// Takes the first pair that matches a probe out of the home of a hash on one side. If no live
     /// pair is left in the bucket, the arrays may shrink, as `shrink_left` does.
     #[inline(always)]
     pub(crate) fn take_on<P: KeyProbe<K>>(
@@ -281,8 +281,9 @@ impl<K: Drop, V: Drop, L: LruList + Drop, const TYPE: u8> Arrays<K, V, L, TYPE> 
         Some(pair)
     }
 
-    /// Takes the pair that `take_on` takes, and borrows the bucket for writing only if there is
-    /// one. Such a borrow makes the buckets of a part, also in an old array that has freed them.
+    /// Takes the pair that `take_on` takes, but borrows the bucket for writing only if there is
+    /// one. Such a borrow initializes the buckets of a part, even in an old array that has freed
+    /// them.
     #[inline(always)]
     pub(crate) fn search_and_take<P: KeyProbe<K>>(
         &mut self,

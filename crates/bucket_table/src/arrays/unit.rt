@@ -16,7 +16,7 @@ use bucket_slots::lru::LruList;
 
 impl<K: Eq + Drop, V: Drop, L: LruList + Drop, const TYPE: u8> Arrays<K, V, L, TYPE> {
     /// Works the next unit of the old array, and returns whether all of it has moved: an allocation
-    /// failure ends the unit early. `None` if no unit can be handed out.
+    /// failure ends the unit early. Returns `None` if no unit can be issued.
     pub(crate) fn work_unit<H: KeyHash<K>>(&mut self, hasher: &H) -> Option<bool>
         requires placed { ArePlaced (H.hash_of hasher.now) self.old }
         ensures placed { ArePlaced (H.hash_of hasher.now) self.new }
@@ -56,7 +56,7 @@ impl<K: Eq + Drop, V: Drop, L: LruList + Drop, const TYPE: u8> Arrays<K, V, L, T
         success
     }
 
-    /// Writes the digests of the homes of some old buckets. No bucket changes.
+    /// Rebuilds the digests of the homes of some old buckets. No bucket changes.
     fn settle_unit(&mut self, start: usize, end: usize)
         ensures { self.new ≡ self.old }
     {
@@ -88,7 +88,7 @@ impl<K: Eq + Drop, V: Drop, L: LruList + Drop, const TYPE: u8> Arrays<K, V, L, T
 }
 
 impl<K, V, L: LruList, const TYPE: u8> Arrays<K, V, L, TYPE> {
-    /// Writes the digest of a bucket, which only a current one has. No bucket changes.
+    /// Rebuilds the digest of a bucket, if it is a current one. No bucket changes.
     pub(crate) fn settle_on(&mut self, side: Side, index: usize)
         requires { index < length (buckets_on self.old side) }
         ensures { self.new ≡ self.old }
@@ -99,7 +99,7 @@ impl<K, V, L: LruList, const TYPE: u8> Arrays<K, V, L, TYPE> {
         }
     }
 
-    /// Writes the digest of a current bucket. No bucket changes.
+    /// Rebuilds the digest of a current bucket. No bucket changes.
     fn settle_current(&mut self, index: usize)
         requires { index < length self.old.current }
         ensures { self.new ≡ self.old }

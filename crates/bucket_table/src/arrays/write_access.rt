@@ -21,11 +21,11 @@ use bucket_slots::lru::LruList;
 use std::alloc::AllocError;
 
 impl<K: Eq + Drop, V: Drop, L: LruList + Drop, const TYPE: u8> Arrays<K, V, L, TYPE> {
-    /// Finds the bucket for a writer of a hash. Returns its side, and its index.
+    /// Finds the bucket for a writer of a hash. Returns its side and its index.
     ///
     /// # Errors
     ///
-    /// Allocation failed, for a first array, or for a source, which isn't killed.
+    /// Allocation failed, either for a first array or for a source, which isn't killed.
     #[inline(always)]
     pub(crate) fn find<H: KeyHash<K>>(
         &mut self,
@@ -50,8 +50,8 @@ impl<K: Eq + Drop, V: Drop, L: LruList + Drop, const TYPE: u8> Arrays<K, V, L, T
         Ok((side, index))
     }
 
-    /// Works a unit, and moves the sources of the home of a hash. Makes a first array if there is
-    /// none.
+    /// Works a unit, and moves the sources of the home of a hash. Allocates a first array if there
+    /// is none.
     #[inline(always)]
     fn fetch_or_make<H: KeyHash<K>>(&mut self, hasher: &H, hash: u64) -> Result<(), AllocError>
         requires placed { ArePlaced (H.hash_of hasher.now) self.old }
@@ -76,8 +76,8 @@ impl<K: Eq + Drop, V: Drop, L: LruList + Drop, const TYPE: u8> Arrays<K, V, L, T
         Ok(())
     }
 
-    /// Resizes if a writer of a hash tries a growth at this bucket. Returns the side of the
-    /// bucket's array then: the old one after a growth.
+    /// Resizes if a writer of a hash tries a growth at this bucket. Returns the side on which the
+    /// bucket's array then is: the old one after a growth.
     #[inline(always)]
     pub(crate) fn grow_at(&mut self, hash: u64, index: usize) -> Side
         requires within { index < length self.old.current }
@@ -145,7 +145,7 @@ impl<K, V, L: LruList, const TYPE: u8> Arrays<K, V, L, TYPE> {
     }
 
     /// Returns the index of a hash's home in the current array, if that has at most four buckets,
-    /// there is no old one, and a writer tries no growth there.
+    /// there is no old one, and a writer would not try a growth there.
     #[inline(always)]
     pub(crate) fn short_home(&self, hash: u64) -> Option<usize>
         ensures { IfSome result (λ index. IsRoomy self.now hash index) }
@@ -164,7 +164,7 @@ impl<K, V, L: LruList, const TYPE: u8> Arrays<K, V, L, TYPE> {
     }
 
     /// Returns the index of a hash's home in the current array, if there is no old one and the
-    /// home's digest shows that a writer tries no growth there.
+    /// home's digest shows that a writer would not try a growth there.
     #[inline(always)]
     pub(crate) fn roomy_home(&self, hash: u64) -> Option<usize>
         ensures { IfSome result (λ index. IsRoomy self.now hash index) }

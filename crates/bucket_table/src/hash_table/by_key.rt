@@ -1,7 +1,5 @@
 //! Calls by key. A call that changes the pair of a key in the map never fails: it finds the pair on
-//! either side, moved or not. It searches by a probe that wants the keys equal to its own.
-//!
-//! Own.
+//! either side, moved or not. It searches by a probe that matches the keys equal to its own.
 ghost use Rattle.std.specs.Prelude.{◌≡◌, ◌≢◌, ◌%◌, ◌<◌, IfSome, IfNone, IsTrue};
 ghost use Rattle.std.specs.Prelude.{OnErr, OnOk, Some, is_ok, is_some, length};
 ghost use Rattle.std.specs.Borrow.{Bor};
@@ -44,12 +42,12 @@ impl<K: Eq + Drop, V: Drop, H: KeyHash<K>, L: LruList + Drop, const TYPE: u8> Ha
     L,
     TYPE,
 > {
-    /// Removes the pair whose key is equal, and returns it. `None` exactly if the map has none.
+    /// Removes the pair with an equal key and returns it, or `None` exactly if the map has none.
     ///
-    /// Works a unit. May take memory, and never fails. If no live pair is left in the bucket, the
+    /// Works a unit. May allocate, and never fails. If no live pair is left in the bucket, the
     /// table may shrink, by the rule `rule`.
     ///
-    /// O(unit; buckets if it shrinks). Own.
+    /// O(unit; buckets if it shrinks).
     #[inline(always)]
     pub fn take(&mut self, key: &K, rule: ResizeRule) -> Option<(K, V)>
         requires not_index { TYPE ≢ INDEX }
@@ -63,13 +61,14 @@ impl<K: Eq + Drop, V: Drop, H: KeyHash<K>, L: LruList + Drop, const TYPE: u8> Ha
         self.take_by(hash, &mut EqProbe::new(key), rule)
     }
 
-    /// Calls `reader` with the pair of an index whose key is equal, makes the pair a tombstone, and
-    /// returns the reader's answer. `None` exactly if the map has none; `reader` isn't called then.
+    /// Calls `reader` with the pair of an index with an equal key, makes the pair a tombstone, and
+    /// returns the result of `reader`. Returns `None` exactly if the map has none; then `reader`
+    /// isn't called.
     ///
-    /// Works a unit. May take memory, and never fails. If no live pair is left in the bucket, the
+    /// Works a unit. May allocate, and never fails. If no live pair is left in the bucket, the
     /// table may shrink, by the rule `rule`.
     ///
-    /// O(unit; buckets if it shrinks). Own.
+    /// O(unit; buckets if it shrinks).
     pub fn mark<R, F: FnOnce(&K, &V) -> R, G: Generation>(
         &mut self,
         key: &K,
@@ -95,12 +94,12 @@ impl<K: Eq + Drop, V: Drop, H: KeyHash<K>, L: LruList + Drop, const TYPE: u8> Ha
         self.mark_by(hash, &mut EqProbe::new(key), generation, rule, reader)
     }
 
-    /// Makes the pair of a cache whose key is equal the one touched last in its bucket; a slot of
-    /// the chain isn't listed. Returns whether there is one.
+    /// Makes the pair of a cache with an equal key the one touched last in its bucket; a slot of
+    /// the chain isn't listed. Returns whether there is such a pair.
     ///
-    /// Works a unit. May take memory, and never fails.
+    /// Works a unit. May allocate, and never fails.
     ///
-    /// O(unit). Own.
+    /// O(unit).
     #[inline(always)]
     pub fn touch(&mut self, key: &K) -> bool
         requires cache { TYPE ≡ CACHE }
@@ -113,15 +112,15 @@ impl<K: Eq + Drop, V: Drop, H: KeyHash<K>, L: LruList + Drop, const TYPE: u8> Ha
         self.touch_by(hash, &mut EqProbe::new(key))
     }
 
-    /// Writes the value beside the equal key, and returns the earlier one.
+    /// Replaces the value of the pair with an equal key, and returns the previous value.
     ///
-    /// Works a unit. May take memory, and never fails.
+    /// Works a unit. May allocate, and never fails.
     ///
     /// # Errors
     ///
     /// The key is absent: the value is returned.
     ///
-    /// O(unit). Own.
+    /// O(unit).
     #[inline(always)]
     pub fn swap(&mut self, key: &K, value: V) -> Result<V, V>
         ensures map { Swaps (λ own. K.eq own key.now) value (state_of TYPE self.old) result
@@ -137,14 +136,14 @@ impl<K: Eq + Drop, V: Drop, H: KeyHash<K>, L: LruList + Drop, const TYPE: u8> Ha
         }
     }
 
-    /// Inserts a pair whose key is absent. The table may grow, by the rule `rule`.
+    /// Inserts a pair if its key is absent. The table may grow, by the rule `rule`.
     ///
     /// # Errors
     ///
-    /// The key is in the map; or allocation failed, and the key is absent: the pair is returned.
+    /// The key is in the map, or it is absent and allocation failed: the pair is returned.
     /// Allocation can't fail if the bucket that is found has a free slot.
     ///
-    /// O(unit; buckets that a resize makes). Own.
+    /// O(unit; buckets that a resize makes).
     #[inline(always)]
     pub fn insert_pair<G: Generation>(
         &mut self,
@@ -192,7 +191,7 @@ impl<K: Eq + Drop, V: Drop, H: KeyHash<K>, L: LruList + Drop, const TYPE: u8> Ha
         self.insert_at(side, index, hash, key, value, generation)
     }
 
-    /// Inserts a pair whose key is absent into a locked bucket.
+    /// Inserts a pair into a locked bucket if its key is absent.
     #[inline(always)]
     fn insert_at<G: Generation>(
         &mut self,
@@ -222,9 +221,9 @@ impl<K: Eq + Drop, V: Drop, H: KeyHash<K>, L: LruList + Drop, const TYPE: u8> Ha
         done
     }
 
-    /// Writes a value into a live slot, and returns the earlier one.
+    /// Writes a value into a live slot, and returns the previous one.
     ///
-    /// O(blocks of the chain). Own.
+    /// O(blocks of the chain).
     #[inline(always)]
     pub fn swap_at(&mut self, spot: &Spot<K, V, TYPE>, value: V) -> V
         requires within { spot.now.index < length (buckets_on self.old.arrays spot.now.side) }
@@ -244,7 +243,7 @@ impl<K: Eq + Drop, V: Drop, H: KeyHash<K>, L: LruList + Drop, const TYPE: u8> Ha
 }
 
 impl<K: Eq, V, H: KeyHash<K>, L: LruList, const TYPE: u8> HashTable<K, V, H, L, TYPE> {
-    /// Returns the live slot with an equal key, on either side; `None` where the map has none.
+    /// Returns the live slot with an equal key, on either side, or `None` if the map has none.
     #[inline(always)]
     fn spot_of(&self, key: &K, hash: u64) -> Option<Spot<K, V, TYPE>>
         requires own_hash { hash ≡ H.hash_of self.now.hasher key.now }

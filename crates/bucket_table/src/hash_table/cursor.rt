@@ -1,4 +1,4 @@
-//! Cursors over a table, and what they sweep.
+//! Cursors over a table, and sweeps by them.
 ghost use Rattle.std.specs.Prelude.{◌≡◌, ◌≢◌, ◌<◌, ◌+◌, [], ℕ, Bool, Ok, Err, length};
 ghost use Rattle.std.specs.Prelude.{IfOk, IsErrAnd, IsOk, OnErr, if◌then◌else◌, is_ok};
 ghost use Rattle.std.specs.Borrow.{RestsIfErr, sem};
@@ -34,14 +34,14 @@ impl<K: Eq + Drop, V: Drop, H: KeyHash<K>, L: LruList + Drop, const TYPE: u8> Ha
     TYPE,
 > {
     /// Removes each pair for which `keep` returns false; in an index it becomes a tombstone.
-    /// Returns how many, saturating.
+    /// Returns how many were removed, saturating.
     ///
     /// # Errors
     ///
     /// Allocation failed: the pairs with hashes below some bound are swept, and the others are
     /// unchanged.
     ///
-    /// O(pairs, and buckets of the arrays that it passes). Own.
+    /// O(pairs, and buckets of the arrays that it passes).
     pub fn sweep<F: Fn(&K, &V) -> bool, G: Generation>(
         &mut self,
         keep: &F,
@@ -110,7 +110,8 @@ impl<K: Eq + Drop, V: Drop, H: KeyHash<K>, L: LruList + Drop, const TYPE: u8> Ha
             .first_past_bucket(&self.hasher, Side::Current, index, at)
     }
 
-    /// Removes each pair of a current bucket for which `keep` returns false. Returns how many.
+    /// Removes each pair of a current bucket for which `keep` returns false. Returns how many were
+    /// removed.
     fn retain_bucket<F: Fn(&K, &V) -> bool, G: Generation>(
         &mut self,
         index: usize,
@@ -139,7 +140,7 @@ impl<K: Eq + Drop, V: Drop, H: KeyHash<K>, L: LruList + Drop, const TYPE: u8> Ha
     ///
     /// The map is empty, or allocation failed while there is an old array: the pointer is null.
     ///
-    /// O(buckets passed, and pairs that move). Own.
+    /// O(buckets passed, and pairs that move).
     pub fn first_sync(
         &mut self,
         at: &mut EntryPtr<K, V, TYPE>,
@@ -176,11 +177,11 @@ impl<'a, K: Eq + Drop, V: Drop, H: KeyHash<K>, L: LruList + Drop, const TYPE: u8
     L,
     TYPE,
 > {
-    /// Moves a pointer from where it is in the bucket to the next live pair, and locks that pair's
+    /// Moves a pointer from its place in the bucket to the next live pair, and locks that pair's
     /// bucket.
     ///
-    /// If it leaves a bucket without a live pair, the table may be resized. It works a unit before
-    /// each bucket that it then passes. A pair may be visited twice.
+    /// If it leaves a bucket without a live pair, the table may be resized. Before each bucket that
+    /// it then passes, it works a unit. A pair may be visited twice.
     ///
     /// # Errors
     ///

@@ -1,4 +1,4 @@
-//! Taking a table's pairs out by value, or dropping them all.
+//! Removing all pairs of a table, by value or by dropping them.
 ghost use Rattle.std.specs.Prelude.{◌≡◌, [], ◌≢◌};
 ghost use Rattle.bucket_table.specs.Rehash.State.{first_tickets};
 ghost use Rattle.bucket_table.specs.Views.ArraysView.{pairs_of};
@@ -17,10 +17,10 @@ impl<K: Eq + Drop, V: Drop, H: KeyHash<K>, L: LruList + Drop, const TYPE: u8> Ha
     L,
     TYPE,
 > {
-    /// Drops both arrays with their pairs and tombstones. Open tickets end with the old array; the
+    /// Drops both arrays with their pairs and tombstones. Open tickets end with the old array. The
     /// hasher and the capacities stay.
     ///
-    /// Takes no memory, and never fails. O(pairs, and buckets). Own.
+    /// Allocates nothing and never fails. O(pairs, and buckets).
     pub fn clear(&mut self)
         ensures hasher { self.new.hasher ≡ self.old.hasher }
         ensures arrays { self.new.arrays
@@ -34,10 +34,10 @@ impl<K: Eq + Drop, V: Drop, H: KeyHash<K>, L: LruList + Drop, const TYPE: u8> Ha
 impl<K: Eq, V, H: KeyHash<K>, L: LruList, const TYPE: u8> HashTable<K, V, H, L, TYPE> {
     /// Takes both arrays out, and returns an iterator over their pairs by value, in the order of
     /// `for_each`. The table is empty at once; open tickets end with the old array, and the hasher
-    /// and the capacities stay. The pairs that are left, and the memory of the slots, are dropped
-    /// with the iterator.
+    /// and the capacities stay. When the iterator is dropped, so are the remaining pairs and the
+    /// memory of the slots.
     ///
-    /// Takes no memory, and never fails. O(1); all steps together O(pairs, and buckets). Own.
+    /// Allocates nothing and never fails. O(1); all steps together O(pairs, and buckets).
     pub fn drain(&mut self) -> TableDrain<K, V, L, TYPE>
         requires not_index { TYPE ≢ INDEX }
         ensures pairs { result ≡ pairs_of self.old.arrays }

@@ -1,4 +1,4 @@
-//! A function called with each pair of a table, or of one bucket.
+//! Calls of a function with each pair of a table, or of one bucket.
 ghost use Rattle.std.specs.Prelude.{◌<◌, ◌^◌, ◌↔◌, IsTrue, length};
 ghost use Rattle.bucket_slots.specs.ArrayView.{bucket_at};
 ghost use Rattle.bucket_slots.specs.BucketView.{pairs_in};
@@ -11,13 +11,12 @@ use crate::key_hash::KeyHash;
 use bucket_slots::lru::LruList;
 
 impl<K: Eq, V, H: KeyHash<K>, L: LruList, const TYPE: u8> HashTable<K, V, H, L, TYPE> {
-    /// Calls a function with each pair once: bucket after bucket of the current array, and then of
-    /// the old one, each in slot order.
+    /// Calls a function once with each pair: bucket after bucket of the current array, then of the
+    /// old one, each bucket in slot order.
     ///
-    /// It changes nothing and works no unit. Takes no memory.
+    /// Changes nothing, works no unit, and allocates nothing itself.
     ///
-    /// O(slots, and the square of the number of blocks of each chain), and the function's calls.
-    /// Own.
+    /// O(slots, and the square of the number of blocks of each chain), plus the function's calls.
     #[inline(always)]
     pub fn for_each<F: FnMut(&K, &V)>(&self, f: &mut F)
         requires callable { F.IsAlwaysCallable f.old }
@@ -29,11 +28,11 @@ impl<K: Eq, V, H: KeyHash<K>, L: LruList, const TYPE: u8> HashTable<K, V, H, L, 
     }
 
     /// Calls a function with each pair of one bucket, in slot order, and returns whether there is
-    /// such a bucket. The buckets count from the current array's first on, then the old one's.
+    /// such a bucket. `bucket` counts the buckets of the current array, then those of the old one.
     ///
-    /// It changes nothing and works no unit. Takes no memory.
+    /// Changes nothing, works no unit, and allocates nothing itself.
     ///
-    /// O(32, and the square of the number of blocks of the chain), and the function's calls. Own.
+    /// O(32, and the square of the number of blocks of the chain), plus the function's calls.
     #[inline(always)]
     pub fn for_each_in<F: FnMut(&K, &V)>(&self, bucket: usize, f: &mut F) -> bool
         requires callable { F.IsAlwaysCallable f.old }

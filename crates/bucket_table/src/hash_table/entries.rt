@@ -1,6 +1,4 @@
-//! The pair in a live slot of a bucket of one side, lent for reading or for writing.
-//!
-//! Own.
+//! Loans of the pair in a live slot of a bucket of one side, for reading or for writing.
 ghost use Rattle.std.specs.Prelude.{◌≡◌, ◌<◌, IsTrue, Some, length};
 ghost use Rattle.std.specs.Borrow.{sem};
 ghost use Rattle.bucket_slots.specs.BucketView.{slot_in};
@@ -19,7 +17,7 @@ impl<K: Eq, V, H: KeyHash<K>, L: LruList, const TYPE: u8> HashTable<K, V, H, L, 
 
     /// Returns the pair in a live slot.
     ///
-    /// O(blocks of the chain). Own.
+    /// O(blocks of the chain).
     #[inline(always)]
     pub fn entry_at(&self, spot: &Spot<K, V, TYPE>) -> (&K, &V)
         requires within { spot.now.index < length (buckets_on self.now.arrays spot.now.side) }
@@ -32,10 +30,10 @@ impl<K: Eq, V, H: KeyHash<K>, L: LruList, const TYPE: u8> HashTable<K, V, H, L, 
         self.arrays.entry_of(spot.side, spot.index, &spot.at)
     }
 
-    /// Lends the pair in a live slot of a bucket of one side, its value for writing: what is
-    /// written is in the table.
+    /// Lends the pair in a live slot of a bucket of one side, with its value for writing. What is
+    /// written to the value is in the table after the loan.
     ///
-    /// O(blocks of the chain). Own.
+    /// O(blocks of the chain).
     #[inline(always)]
     pub fn entry_mut_at(
         &mut self,

@@ -1,4 +1,4 @@
-//! Taking a table's arrays out, to remove pairs from them one after another, and putting them back.
+//! Taking the arrays out of a table, to remove pairs from them one by one, and putting them back.
 ghost use Rattle.std.specs.Prelude.{◌≡◌, ◌≢◌, []};
 ghost use Rattle.bucket_table.specs.Rehash.State.{first_tickets};
 ghost use Rattle.bucket_table.specs.Views.ArraysView.{IsOneMap, pairs_of};
@@ -12,9 +12,9 @@ use bucket_slots::lru::LruList;
 
 impl<K: Eq, V, H: KeyHash<K>, L: LruList, const TYPE: u8> HashTable<K, V, H, L, TYPE> {
     /// Takes both arrays out, with their tickets, for calls of `extract_next`. The table has no
-    /// array until they are put back by `restore`; the hasher and the capacities stay.
+    /// array until `restore` puts them back; the hasher and the capacities stay.
     ///
-    /// Takes no memory, and never fails. O(1). Own.
+    /// Allocates nothing and never fails. O(1).
     pub fn extract(&mut self) -> TableExtract<K, V, L, TYPE>
         requires not_index { TYPE ≢ INDEX }
         ensures arrays_out { result.arrays ≡ self.old.arrays }
@@ -28,10 +28,10 @@ impl<K: Eq, V, H: KeyHash<K>, L: LruList, const TYPE: u8> HashTable<K, V, H, L, 
         self.arrays.extract(count)
     }
 
-    /// Puts back arrays that were taken out, with their tickets and capacities, in exchange for
-    /// what the table has.
+    /// Puts arrays back that were taken out, with their tickets and capacities, in exchange for
+    /// those of the table.
     ///
-    /// Takes no memory, and never fails. O(buckets), since it counts the pairs. Own.
+    /// Allocates nothing and never fails. O(buckets), since it counts the pairs.
     pub fn restore(&mut self, taken: &mut TableExtract<K, V, L, TYPE>)
         requires one_map { ∥ IsOneMap K.eq (H.hash_of self.old.hasher) taken.old.arrays ∥₁ }
         ensures { self.new ≡ record self.old { arrays = taken.old.arrays } }

@@ -1,8 +1,8 @@
-//! A bucket of a table, and the table, which it borrows for writing.
+//! A locked bucket: a bucket of a table, with an exclusive borrow of the table.
 //!
-//! Model: `LockedBucket`, the table, a side and an index; `bucket_in` is its bucket.
-//! Invariant (`IsLocked`, the ghost field): a current bucket has all its sources killed; an old one
-//! isn't killed, and then every slot of the current array is free.
+//! Model: `LockedBucket`, the table, a side and an index; `bucket_in` is its bucket. Invariant
+//! (`IsLocked`, the ghost field): a current bucket has all its sources killed; an old one isn't
+//! killed, and then every slot of the current array is free.
 //!
 //! Ports `LockedBucket` of scc's `src/hash_table.rs`.
 ghost use Rattle.bucket_slots.specs.BucketView.{null_place, slot_in};
@@ -31,7 +31,7 @@ use bucket_slots::bucket::{Bucket, CACHE, EntryPtr, Generation, INDEX};
 use bucket_slots::bucket_array::BucketArray;
 use bucket_slots::lru::LruList;
 
-/// A bucket of a table's current or old array, and the table, which it borrows.
+/// A bucket of a table's current or old array, with the table, which it borrows.
 #[derive(Drop)]
 pub struct LockedBucket<'a, K: Eq, V, H: KeyHash<K>, L: LruList, const TYPE: u8> {
     pub(crate) table: &'a mut HashTable<K, V, H, L, TYPE>,
@@ -53,7 +53,7 @@ impl<'a, K: Eq, V, H: KeyHash<K>, L: LruList, const TYPE: u8> LockedBucket<'a, K
         self.index
     }
 
-    /// Returns the array that the bucket is of.
+    /// Returns the array that the bucket is in.
     ///
     /// O(1). scc: `LockedBucket::bucket_array`.
     pub fn array(&self) -> &BucketArray<K, V, L, TYPE>
@@ -73,7 +73,7 @@ impl<'a, K: Eq, V, H: KeyHash<K>, L: LruList, const TYPE: u8> LockedBucket<'a, K
         table.arrays.bucket_of(self.side, self.index)
     }
 
-    /// Returns a pointer to the pair whose key is equal; the null pointer exactly where the table
+    /// Returns a pointer to the pair with an equal key, or the null pointer exactly if the table
     /// has none.
     ///
     /// O(slots of the bucket). scc: `LockedBucket::search`.
@@ -113,7 +113,8 @@ impl<'a, K: Eq, V, H: KeyHash<K>, L: LruList, const TYPE: u8> LockedBucket<'a, K
         table.arrays.entry_of(self.side, self.index, at)
     }
 
-    /// Lends the pair in a live slot, its value for writing: what is written is in the table.
+    /// Lends the pair in a live slot, with its value for writing. What is written to the value is
+    /// in the table after the loan.
     ///
     /// O(blocks of the chain). scc: `LockedBucket::entry_mut`.
     pub fn entry_mut(&mut self, at: &EntryPtr<K, V, TYPE>) -> (&K, &mut V)
@@ -136,9 +137,9 @@ impl<'a, K: Eq, V, H: KeyHash<K>, L: LruList, const TYPE: u8> LockedBucket<'a, K
         table.arrays.entry_of_mut(side, index, at)
     }
 
-    /// Makes a live own slot the one touched last; a slot of the chain isn't listed.
+    /// Makes a live own slot the one touched last. A slot of the chain isn't listed.
     ///
-    /// Takes no memory. O(1). scc: `Bucket::update_lru_tail`.
+    /// Allocates nothing. O(1). scc: `Bucket::update_lru_tail`.
     pub fn update_lru_tail(&mut self, at: &EntryPtr<K, V, TYPE>)
         requires cache { TYPE ≡ CACHE }
         requires live_slot { IsTrue (is_live
@@ -154,10 +155,10 @@ impl<'a, K: Eq, V, H: KeyHash<K>, L: LruList, const TYPE: u8> LockedBucket<'a, K
         table.arrays.touch_slot(side, index, at);
     }
 
-    /// Evicts the pair touched longest ago, or the one in slot 0 if none is listed, and returns it.
-    /// `None` exactly where an own slot is free.
+    /// Evicts the pair touched longest ago, or the one in slot 0 if none is listed, and returns it,
+    /// or `None` exactly if an own slot is free.
     ///
-    /// Takes no memory. O(1). scc: `Bucket::evict_lru_head`.
+    /// Allocates nothing. O(1). scc: `Bucket::evict_lru_head`.
     pub fn evict_lru_head(&mut self) -> Option<(K, V)>
         requires cache { TYPE ≡ CACHE }
         ensures changed { Changes self.old self.new (λ bucket. slots_left bucket result) }
@@ -176,9 +177,9 @@ impl<'a, K: Eq, V, H: KeyHash<K>, L: LruList, const TYPE: u8> LockedBucket<'a, K
         gone
     }
 
-    /// Makes a live slot of an index a tombstone; the table isn't shrunk.
+    /// Makes a live slot of an index a tombstone. The table isn't shrunk.
     ///
-    /// Takes no memory. O(blocks of the chain). scc: `Bucket::mark_removed`.
+    /// Allocates nothing. O(blocks of the chain). scc: `Bucket::mark_removed`.
     pub fn mark_entry<G: Generation>(&mut self, at: &mut EntryPtr<K, V, TYPE>, generation: &G)
         requires index { TYPE ≡ INDEX }
         requires live_slot { IsTrue (is_live
@@ -249,9 +250,9 @@ impl<'a, K: Eq + Drop, V: Drop, H: KeyHash<K>, L: LruList, const TYPE: u8> Locke
         placed
     }
 
-    /// Takes the pair out of a live slot and returns it; the table isn't shrunk.
+    /// Takes the pair out of a live slot and returns it. The table isn't shrunk.
     ///
-    /// Takes no memory. O(blocks of the chain). scc: `Bucket::remove`.
+    /// Allocates nothing. O(blocks of the chain). scc: `Bucket::remove`.
     pub fn remove_entry(&mut self, at: &mut EntryPtr<K, V, TYPE>) -> (K, V)
         requires not_index { TYPE ≢ INDEX }
         requires live_slot { IsTrue (is_live

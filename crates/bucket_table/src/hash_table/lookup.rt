@@ -1,4 +1,4 @@
-//! Look-ups: by key, and by a probe in code without `K: Eq`.
+//! Look-ups: by key, or by a probe in code without `K: Eq`.
 ghost use Rattle.std.specs.Prelude.{◌≡◌, ◌+◌, ◌≤◌, true, IfSome, IfNone};
 ghost use Rattle.std.specs.Borrow.{Bor};
 ghost use Rattle.bucket_table.specs.Views.ArraysView.{pairs_of};
@@ -11,9 +11,9 @@ use bucket_slots::bucket::{EqProbe, KeyProbe};
 use bucket_slots::lru::LruList;
 
 impl<K: Eq, V, H: KeyHash<K>, L: LruList, const TYPE: u8> HashTable<K, V, H, L, TYPE> {
-    /// Returns the pair whose key is equal; `None` where the map has none.
+    /// Returns the pair with an equal key, or `None` if the map has none.
     ///
-    /// Moves nothing, and takes no memory. O(blocks in two chains). scc: `HashTable::peek_entry`.
+    /// Moves and allocates nothing. O(blocks in two chains). scc: `HashTable::peek_entry`.
     #[inline(always)]
     pub fn peek_entry(&self, key: &K) -> Option<(&K, &V)>
         ensures found { IfSome result (λ pair.
@@ -24,7 +24,7 @@ impl<K: Eq, V, H: KeyHash<K>, L: LruList, const TYPE: u8> HashTable<K, V, H, L, 
         self.peek_hashed(key, self.hasher.hash_one(key))
     }
 
-    /// Returns the pair whose key is equal, by its key's hash; `None` where the map has none.
+    /// Returns the pair with an equal key, given the key's hash, or `None` if the map has none.
     #[inline(always)]
     fn peek_hashed(&self, key: &K, hash: u64) -> Option<(&K, &V)>
         requires own_hash { hash ≡ H.hash_of self.now.hasher key.now }
@@ -36,11 +36,11 @@ impl<K: Eq, V, H: KeyHash<K>, L: LruList, const TYPE: u8> HashTable<K, V, H, L, 
         self.peek_entry_by(hash, &mut EqProbe::new(key))
     }
 
-    /// Returns a pair whose key the probe wants; `None` where the map has none. The probe wants
-    /// keys of this hash alone.
+    /// Returns a pair whose key matches the probe, or `None` if the map has none. The probe must
+    /// match only keys of this hash.
     ///
-    /// Asks at most once for each live slot of the hash's two homes with its fingerprint. Moves
-    /// nothing, and takes no memory. O(blocks in two chains). Own.
+    /// Asks at most once for each live slot of the hash's two homes with its fingerprint. Moves and
+    /// allocates nothing. O(blocks in two chains).
     #[inline(always)]
     pub fn peek_entry_by<P: KeyProbe<K>>(&self, hash: u64, probe: &mut P) -> Option<(&K, &V)>
         requires own_hash { (key : K)
@@ -66,10 +66,10 @@ impl<K: Eq + Drop, V: Drop, H: KeyHash<K>, L: LruList + Drop, const TYPE: u8> Ha
     L,
     TYPE,
 > {
-    /// Calls `reader` with the pair whose key is equal, and returns its answer. `None` if the map
-    /// has none; `reader` isn't called then.
+    /// Calls `reader` with the pair with an equal key, and returns its result, or `None` if the map
+    /// has none; then `reader` isn't called.
     ///
-    /// Works a unit. May take memory, and never fails.
+    /// Works a unit. May allocate, and never fails.
     ///
     /// O(unit). scc: `HashTable::reader_sync`.
     pub fn reader_sync<R, F: FnOnce(&K, &V) -> R>(&mut self, key: &K, reader: F) -> Option<R>

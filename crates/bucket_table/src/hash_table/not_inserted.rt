@@ -9,9 +9,9 @@ use std::fmt::{self, Debug};
 use std::io::{self, ErrorKind};
 
 impl<K, V> NotInserted<K, V> {
-    /// Returns the pair, whatever the cause.
+    /// Returns the pair, whatever the cause of the error.
     ///
-    /// O(1). Own.
+    /// O(1).
     pub fn into_pair(self) -> (K, V)
         ensures { result ≡ pair_of_refusal self }
     {
@@ -32,8 +32,8 @@ impl<K, V> fmt::Display for NotInserted<K, V> {
 
 impl<K: Debug + Drop, V: Debug + Drop> Error for NotInserted<K, V> {}
 
-/// Lets `?` work in a function that returns an `io::Result`. The kind says whether the key is in
-/// the map or allocation failed. The pair is dropped.
+/// Lets `?` work in a function that returns an `io::Result`. The error's kind says whether the key
+/// is in the map or allocation failed. The pair is dropped.
 impl<K: Drop, V: Drop> From<NotInserted<K, V>> for io::Error {
     ghost from_gives = { λ refusal error. error_kind error ≡ kind_of_refusal refusal };
 

@@ -10,8 +10,8 @@ use bucket_slots::lru::LruList;
 impl<K: Eq, V, H: KeyHash<K>, L: LruList, const TYPE: u8> HashTable<K, V, H, L, TYPE> {
     /// Returns an iterator over the pairs, in the order of `for_each`, without tombstones.
     ///
-    /// Changes nothing, works no unit, and takes no memory. O(1); all steps together O(slots, and
-    /// the square of the number of blocks of each chain). Own.
+    /// Changes nothing, works no unit and allocates nothing. O(1); all steps together O(slots, and
+    /// the square of the number of blocks of each chain).
     pub fn pairs(&self) -> TablePairs<'_, K, V, L, TYPE>
         ensures { result ≡ pairs_of self.now.arrays }
     {

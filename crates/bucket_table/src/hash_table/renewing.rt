@@ -1,6 +1,4 @@
-//! Putting all pairs of a cache into a new array, one after another.
-//!
-//! Own.
+//! Moving all pairs of a cache into a new array, one by one.
 ghost use Rattle.std.specs.Prelude.{◌≡◌, ◌≢◌, ◌≤◌, ℕ, [], ◌∷◌, OnErr, OnOk};
 ghost use Rattle.std.specs.Int.{IsPowerOfTwo};
 ghost use Rattle.bucket_slots.specs.Slots.{live_pair, slot_at};
@@ -25,18 +23,19 @@ impl<K: Eq + Drop, V: Drop, H: KeyHash<K>, const TYPE: u8> HashTable<
     DoublyLinkedList,
     TYPE,
 > {
-    /// Puts all pairs of a cache into a new array for a capacity, which is the minimum and the
-    /// maximum from then on. Each pair is put as `put` does: bucket by bucket, first those of the
-    /// chain, and then those of the own slots, the one touched longest ago first. If a pair's new
-    /// bucket has no free own slot, a pair is evicted from it and dropped.
+    /// Moves all pairs of a cache into a new array for a capacity, which becomes the minimum and
+    /// the maximum. Each pair is inserted as `put` does: bucket by bucket, first the pairs of the
+    /// chain, then the own ones, with the one touched longest ago first. If a pair's new bucket has
+    /// no free own slot, a pair is evicted from it and dropped.
     ///
-    /// An incremental rehash that is under way ends with the arrays, and no ticket is open then.
+    /// An incremental rehash that is under way ends with the old arrays, and then no ticket is
+    /// open.
     ///
     /// # Errors
     ///
     /// Allocation of the new array failed, as it always does for 2^63 slots: nothing changes.
     ///
-    /// O(slots of all arrays, and the square of the number of blocks of each chain). Own:
+    /// O(slots of all arrays, and the square of the number of blocks of each chain). Like
     /// `LruCache::resize` of the crate lru.
     pub fn renew(&mut self, capacity: usize) -> Result<(), AllocError>
         requires cache { TYPE ≡ CACHE }
@@ -54,7 +53,7 @@ impl<K: Eq + Drop, V: Drop, H: KeyHash<K>, const TYPE: u8> HashTable<
         Ok(())
     }
 
-    /// Puts in the pairs of other arrays, bucket by bucket.
+    /// Inserts the pairs of other arrays, bucket by bucket.
     fn pour_all(&mut self, source: &mut Arrays<K, V, DoublyLinkedList, TYPE>)
         requires cache { TYPE ≡ CACHE }
         requires awaits { Awaits K.eq self.old (arrays_by_age source.old) }
@@ -71,7 +70,7 @@ impl<K: Eq + Drop, V: Drop, H: KeyHash<K>, const TYPE: u8> HashTable<
         }
     }
 
-    /// Puts in the pairs of a bucket by age.
+    /// Inserts the pairs of a bucket by age.
     fn pour_bucket(&mut self, bucket: &mut Bucket<K, V, DoublyLinkedList, TYPE>)
         requires cache { TYPE ≡ CACHE }
         requires awaits { Awaits K.eq self.old (pairs_by_age bucket.old) }
@@ -81,7 +80,7 @@ impl<K: Eq + Drop, V: Drop, H: KeyHash<K>, const TYPE: u8> HashTable<
         self.pour_own(bucket);
     }
 
-    /// Puts in the pairs of a bucket's chain, from its head on.
+    /// Inserts the pairs of a bucket's chain, from its head on.
     #[tactic(auto, using(crate::proofs::Walking::Retaining::next_live))]
     fn pour_chain(&mut self, bucket: &mut Bucket<K, V, DoublyLinkedList, TYPE>)
         requires cache { TYPE ≡ CACHE }
@@ -98,7 +97,7 @@ impl<K: Eq + Drop, V: Drop, H: KeyHash<K>, const TYPE: u8> HashTable<
         }
     }
 
-    /// Puts in the pairs of a bucket's own slots by age.
+    /// Inserts the pairs of a bucket's own slots by age.
     fn pour_own(&mut self, bucket: &mut Bucket<K, V, DoublyLinkedList, TYPE>)
         requires cache { TYPE ≡ CACHE }
         requires awaits { Awaits K.eq self.old (own_by_age bucket.old) }
@@ -113,7 +112,7 @@ impl<K: Eq + Drop, V: Drop, H: KeyHash<K>, const TYPE: u8> HashTable<
         }
     }
 
-    /// Puts in the pair of an own slot, if it is live.
+    /// Inserts the pair of an own slot, if it is live.
     fn pour_slot(&mut self, bucket: &mut Bucket<K, V, DoublyLinkedList, TYPE>, slot: usize)
         requires cache { TYPE ≡ CACHE }
         requires awaits { Awaits K.eq self.old (own_left bucket.old (slot ∷ [])) }
@@ -127,7 +126,7 @@ impl<K: Eq + Drop, V: Drop, H: KeyHash<K>, const TYPE: u8> HashTable<
         }
     }
 
-    /// Puts in a pair whose key is absent. The pair that is evicted for it is dropped.
+    /// Inserts a pair whose key is absent. The pair that is evicted for it is dropped.
     fn pour_pair(&mut self, key: K, value: V)
         requires cache { TYPE ≡ CACHE }
         requires awaits { Awaits K.eq self.old ((key, value) ∷ []) }

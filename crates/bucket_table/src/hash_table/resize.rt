@@ -1,9 +1,9 @@
-//! Making, replacing and dropping the array of a table.
+//! Allocating, replacing and dropping the array of a table.
 //!
 //! Model: `TableView`, whose `arrays` are the current one and, during an incremental rehash, the
-//! old one. A resize follows its plan (`IsPlan`), which is decided from how many live slots each
-//! bucket has.
-//! Invariant: the table's, `IsOneMap`; each call here keeps the pairs and the open tickets.
+//! old one. A resize follows its plan (`IsPlan`), which depends on the number of live slots of each
+//! bucket.
+//! Invariant: that of the table, `IsOneMap`. Each call here keeps the pairs and the open tickets.
 //!
 //! Ports `get_or_create_array`, `reserve_capacity` and `try_resize` of scc's `src/hash_table.rs`.
 ghost use Rattle.std.specs.Borrow.{sem};
@@ -27,14 +27,15 @@ impl<K: Eq + Drop, V: Drop, H: KeyHash<K>, L: LruList + Drop, const TYPE: u8> Ha
 > {
     ghost use Rattle.bucket_table.specs.Views.ArrayAccess.{EndsAs, GetsArray};
 
-    /// Returns the current array; where there is none, makes an empty one for the minimum first.
+    /// Returns the current array. If there is none, it first allocates an empty one for the
+    /// minimum.
     ///
     /// # Errors
     ///
-    /// Allocation of a first array failed: there is still none, and the table is unchanged. This
-    /// can't happen if there is a current array.
+    /// Allocation of a first array failed: there is still no array, and the table is unchanged.
+    /// This can't happen if there is a current array.
     ///
-    /// O(slots of the array that is made). scc: `HashTable::get_or_create_array`.
+    /// O(slots of the new array). scc: `HashTable::get_or_create_array`.
     pub fn get_or_create_array(&mut self) -> Result<&BucketArray<K, V, L, TYPE>, AllocError>
         ensures* array { sem 𝓛
             (EndsAs K.row V.row H.row L.row TYPE.row K.PartialEq H.KeyHash
@@ -51,17 +52,17 @@ impl<K: Eq + Drop, V: Drop, H: KeyHash<K>, L: LruList + Drop, const TYPE: u8> Ha
 
     /// Doubles the slots, whatever the plan of a resize says, if the home of a hash is overfull: it
     /// has 48 live pairs or more, the map has at least a pair for each 8 slots, no incremental
-    /// rehash is under way, and twice the slots do not pass the maximum. Returns whether it did.
+    /// rehash is under way, and twice the slots do not exceed the maximum. Returns whether it did.
     ///
-    /// Then the current array is the old one, unchanged, and an empty array of twice its slots is
-    /// the current one. Works no unit.
+    /// The current array then becomes the old one, unchanged, and an empty array of twice its slots
+    /// becomes the current one. Works no unit.
     ///
     /// # Errors
     ///
     /// Allocation of the array failed: the table is unchanged.
     ///
-    /// O(1), but for an overfull home O(buckets). Own: keys that come in the order of their hashes
-    /// all go to a few buckets, which no sample sees.
+    /// O(1), but for an overfull home O(buckets). Keys that come in the order of their hashes all
+    /// go to a few buckets, which may be outside every sample.
     #[inline(always)]
     pub fn grow_if_overfull(&mut self, hash: u64) -> Result<bool, AllocError>
         ensures grown { GrowsIfOverfull hash self.old.arrays result self.new.arrays }
@@ -74,17 +75,17 @@ impl<K: Eq + Drop, V: Drop, H: KeyHash<K>, L: LruList + Drop, const TYPE: u8> Ha
         self.arrays.double(count)
     }
 
-    /// Resizes the table, or drops its array, as the plan says. Returns whether it did: false
-    /// without a current array, and while there is an old one.
+    /// Resizes the table, or drops its array, as the plan says. Returns whether it did. It returns
+    /// false without a current array, and while there is an old one.
     ///
-    /// After a resize the current array is the old one, unchanged, and an empty array of the plan's
-    /// capacity is the current one.
+    /// After a resize the previous current array is the old one, unchanged, and an empty array of
+    /// the plan's capacity is the current one.
     ///
     /// # Errors
     ///
     /// Allocation of the planned array failed: the table is unchanged.
     ///
-    /// O(buckets of the current array and of the one that is made). scc: `HashTable::try_resize`.
+    /// O(buckets of the current array and of the new one). scc: `HashTable::try_resize`.
     pub fn try_resize(&mut self) -> Result<bool, AllocError>
         ensures plan { TriesResize self.old.arrays result self.new.arrays }
         ensures map { KeepsPairs (state_of TYPE self.old) (state_of TYPE self.new) }
@@ -93,12 +94,12 @@ impl<K: Eq + Drop, V: Drop, H: KeyHash<K>, L: LruList + Drop, const TYPE: u8> Ha
     }
 
     /// Raises the minimum by a number of slots, and resizes as `try_resize` does. Returns by how
-    /// much it was raised: by nothing, and with no resize, where it would pass the maximum.
+    /// much it was raised. If it would exceed the maximum, that is 0, and there is no resize.
     ///
-    /// The answer says that the minimum was raised, not that slots were made. May take memory, and
+    /// The result says that the minimum was raised, not that slots were added. May allocate, and
     /// never fails: if allocation fails, the arrays stay.
     ///
-    /// O(buckets of the current array and of the one that is made). scc:
+    /// O(buckets of the current array and of the new one). scc:
     /// `HashTable::reserve_capacity`.
     pub fn reserve_capacity(&mut self, additional: usize) -> usize
         ensures arrays { Reserves additional self.old.arrays result self.new.arrays }
@@ -109,12 +110,12 @@ impl<K: Eq + Drop, V: Drop, H: KeyHash<K>, L: LruList + Drop, const TYPE: u8> Ha
     }
 
     /// Lowers the minimum by a number of slots, and resizes as `try_resize` does. Returns by how
-    /// much it was lowered: by nothing, and with no resize, where that exceeds the minimum.
+    /// much it was lowered. If the number exceeds the minimum, that is 0, and there is no resize.
     ///
-    /// The answer says that the minimum was lowered, not that memory was freed. May take memory,
-    /// and never fails: if allocation fails, the arrays stay.
+    /// The result says that the minimum was lowered, not that memory was freed. May allocate, and
+    /// never fails: if allocation fails, the arrays stay.
     ///
-    /// O(buckets of the current array and of the one that is made). Own.
+    /// O(buckets of the current array and of the new one).
     pub fn release_capacity(&mut self, released: usize) -> usize
         ensures arrays { Releases released self.old.arrays result self.new.arrays }
         ensures map { LowersMinimum released (state_of TYPE self.old) result

@@ -1,5 +1,5 @@
 //! Removing the pairs of a table for which a closure returns false, and changing the values of the
-//! others.
+//! other pairs.
 ghost use Rattle.std.specs.Prelude.{◌≡◌, ◌≢◌, ◌<◌, [], length};
 ghost use Rattle.bucket_slots.specs.ArrayView.{bucket_at};
 ghost use Rattle.bucket_slots.specs.BucketView.{pairs_in};
@@ -22,13 +22,14 @@ impl<K: Eq + Drop, V: Drop, H: KeyHash<K>, L: LruList + Drop, const TYPE: u8> Ha
     L,
     TYPE,
 > {
-    /// Calls `keep` once with each pair, its value lent for writing, and removes each pair for
-    /// which it returns false; in an index it becomes a tombstone. Returns how many, saturating.
+    /// Calls `keep` once with each pair, with the value lent for writing, and removes each pair for
+    /// which it returns false; in an index it becomes a tombstone. Returns how many were removed,
+    /// saturating.
     ///
-    /// It begins with the pairs of the current array, and ends with those of the old one. No pair
-    /// moves, and nothing is resized.
+    /// It goes through the current array first, then the old one. No pair moves, and nothing is
+    /// resized.
     ///
-    /// Takes no memory. O(pairs, and buckets of both arrays), and the calls of `keep`. Own.
+    /// Allocates nothing itself. O(pairs, and buckets of both arrays), plus the calls of `keep`.
     pub fn retain<F: FnMut(&K, &mut V) -> bool, G: Generation>(
         &mut self,
         keep: &mut F,
@@ -43,7 +44,7 @@ impl<K: Eq + Drop, V: Drop, H: KeyHash<K>, L: LruList + Drop, const TYPE: u8> Ha
         ensures marks { MarksBy (G.epoch_of generation.now) (marks_of self.old.arrays)
             (marks_of self.new.arrays) }
 
-        // Nothing but pairs changes in the arrays, and the rehash continues from where it was.
+        // Only pairs change in the arrays, and the rehash goes on from where it was.
         ensures settings { KeepsSettings self.old self.new }
         ensures tickets { self.new.arrays.tickets ≡ self.old.arrays.tickets }
         ensures current { AreLeftOf TYPE (G.epoch_of generation.now) self.old.arrays.current

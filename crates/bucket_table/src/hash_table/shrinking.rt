@@ -1,7 +1,7 @@
-//! Calls that take a locked bucket by value: they may shrink the table, and return it.
+//! Calls that take a locked bucket by value: they may shrink the table, and return the table.
 //!
-//! Model: `LockedBucket`, and the table that is returned.
-//! Invariant: the table's, `IsOneMap`; a resize ends the lock of the bucket.
+//! Model: `LockedBucket`, and the table that is returned. Invariant: that of the table, `IsOneMap`;
+//! a resize ends the lock of the bucket.
 //!
 //! Ports `LockedBucket::remove`, `mark_removed` and `try_shrink` of scc's `src/hash_table.rs`.
 ghost use Rattle.std.specs.Prelude.{◌≡◌, ◌≢◌, Some, IsTrue};
@@ -27,10 +27,10 @@ impl<'a, K: Eq + Drop, V: Drop, H: KeyHash<K>, L: LruList + Drop, const TYPE: u8
 > {
     ghost use Rattle.bucket_table.specs.Views.LockedChanges.{ChangesThenShrinks, bucket_in};
 
-    /// Shrinks the table if few slots near the bucket are live, and returns the table, since a
-    /// resize ends the lock of the bucket.
+    /// Shrinks the table if few slots near the bucket are live. Returns the table, since a resize
+    /// ends the lock of the bucket.
     ///
-    /// May take memory, and never fails: if allocation fails, nothing changes. O(buckets). scc:
+    /// May allocate, and never fails: if allocation fails, nothing changes. O(buckets). scc:
     /// `HashTable::try_shrink`.
     pub fn try_shrink(self) -> &'a mut HashTable<K, V, H, L, TYPE>
         ensures same_table { result.ghost_name ≡ self.entry.table.ghost_name }
@@ -48,9 +48,9 @@ impl<'a, K: Eq + Drop, V: Drop, H: KeyHash<K>, L: LruList + Drop, const TYPE: u8
     }
 
     /// Takes the pair out of a live slot. If no live pair is left in the bucket and few slots near
-    /// it are live, shrinks the table. Returns the pair and the table.
+    /// it are live, it shrinks the table. Returns the pair and the table.
     ///
-    /// May take memory, and never fails. O(buckets). scc: `LockedBucket::remove`.
+    /// May allocate, and never fails. O(buckets). scc: `LockedBucket::remove`.
     #[inline(always)]
     pub fn remove(
         self,
@@ -73,9 +73,9 @@ impl<'a, K: Eq + Drop, V: Drop, H: KeyHash<K>, L: LruList + Drop, const TYPE: u8
     }
 
     /// Makes a live slot of an index a tombstone. If no live pair is left in the bucket and few
-    /// slots near it are live, shrinks the table. Returns the table.
+    /// slots near it are live, it shrinks the table. Returns the table.
     ///
-    /// May take memory, and never fails. O(buckets). scc: `LockedBucket::mark_removed`.
+    /// May allocate, and never fails. O(buckets). scc: `LockedBucket::mark_removed`.
     pub fn mark_removed<G: Generation>(
         self,
         at: &mut EntryPtr<K, V, TYPE>,

@@ -1,8 +1,8 @@
-//! Tickets of a rehash: units of the old array handed out, worked and ended, call by call.
+//! Tickets of a rehash: units of the old array are issued, worked and ended, call by call.
 //!
-//! Model: `TableView`; a ticket is an entry of the old array's bag of open units.
-//! Invariant: the table's, `IsOneMap`, whose `LosesNoUnit` says that no unit is forgotten: each one
-//! below the position is killed or open.
+//! Model: `TableView`; a ticket is an entry of the old array's bag of open units. Invariant: that
+//! of the table, `IsOneMap`, whose `LosesNoUnit` says that no unit is lost: each one below the
+//! position is killed or open.
 //!
 //! Ports `start_incremental_rehash`, `relocate_bucket` and `end_incremental_rehash` of scc's
 //! `src/hash_table.rs`.
@@ -26,19 +26,20 @@ use bucket_slots::lru::LruList;
 use std::alloc::AllocError;
 
 impl<K: Eq, V, H: KeyHash<K>, L: LruList, const TYPE: u8> HashTable<K, V, H, L, TYPE> {
-    /// Tests whether there is an old array with a bucket of this index.
+    /// Returns whether there is an old array with a bucket of this index.
     ///
-    /// O(1). Own.
+    /// O(1).
     pub fn has_old_bucket(&self, index: usize) -> bool
         ensures { IsTrue result ↔ (index < length self.now.arrays.linked) }
     {
         index < self.arrays.old_len()
     }
 
-    /// Hands out the next unit of the old array, and returns its ticket: 2048 times the unit.
-    /// `None` if there is no old array, if each unit was handed out, or if 2047 tickets are open.
+    /// Issues the next unit of the old array, and returns its ticket, which is 2048 times the unit.
+    /// Returns `None` if there is no old array, if each unit was issued, or if 2047 tickets are
+    /// open.
     ///
-    /// Takes no memory: the resize allocated room for the tickets. O(1). scc:
+    /// Allocates nothing: the resize allocated room for the tickets. O(1). scc:
     /// `start_incremental_rehash`.
     pub fn start_incremental_rehash(&mut self) -> Option<usize>
         ensures map { KeepsPairs (state_of TYPE self.old) (state_of TYPE self.new) }
@@ -63,18 +64,18 @@ impl<K: Eq + Drop, V: Drop, H: KeyHash<K>, L: LruList + Drop, const TYPE: u8> Ha
     /// Moves the pairs of an old bucket to their homes in the current array, and kills it. A killed
     /// bucket stays as it is.
     ///
-    /// A cache's LRU order moves along: the listed pairs that land in own slots are listed there
-    /// behind their bucket's own, in the order in which they were listed. A pair that lands in a
+    /// A cache's LRU order moves with them: a listed pair that lands in an own slot is listed there
+    /// after that bucket's own pairs, and the moved pairs keep their order. A pair that lands in a
     /// chain isn't listed.
     ///
     /// # Errors
     ///
-    /// Allocation failed: no bucket's live pairs and LRU list have changed, and the old one isn't
-    /// killed. This can't happen if the current array isn't shorter and the bucket has at most 32
-    /// live pairs.
+    /// Allocation failed: no bucket's live pairs and LRU list have changed, and the old bucket
+    /// isn't killed. This can't happen if the current array isn't shorter and the bucket has at
+    /// most 32 live pairs.
     ///
     /// O(slots of the bucket and of its targets). scc: `HashTable::relocate_bucket_sync`, which
-    /// carries no order; see `docs/DIFFERENCES.md`.
+    /// doesn't carry the order; see `docs/DIFFERENCES.md`.
     pub fn relocate_bucket_sync(&mut self, index: usize) -> Result<(), AllocError>
         requires within { index < length self.old.arrays.linked }
         ensures map { KeepsPairs (state_of TYPE self.old) (state_of TYPE self.new) }
@@ -90,17 +91,17 @@ impl<K: Eq + Drop, V: Drop, H: KeyHash<K>, L: LruList + Drop, const TYPE: u8> Ha
         self.arrays.relocate(&self.hasher, index)
     }
 
-    /// Ends a ticket, and returns whether the old array was dropped, which it is once each of its
+    /// Ends a ticket, and returns whether the old array was dropped. It is dropped once each of its
     /// buckets is killed, no unit is left and no ticket is open. If the ticket ends without
-    /// success, its unit is handed out again.
+    /// success, its unit will be issued again.
     ///
     /// # Errors
     ///
-    /// No such ticket is open; or success is claimed while a bucket of its unit isn't killed. The
+    /// No such ticket is open, or success is claimed while a bucket of its unit isn't killed. The
     /// table is unchanged.
     ///
-    /// O(buckets of a unit, and open tickets). scc: `end_incremental_rehash`; see
-    /// `docs/DIFFERENCES.md`, which tickets are checked.
+    /// O(buckets of a unit, and open tickets). scc: `end_incremental_rehash`, which doesn't check
+    /// the ticket; see `docs/DIFFERENCES.md`.
     pub fn end_incremental_rehash(
         &mut self,
         ticket: usize,

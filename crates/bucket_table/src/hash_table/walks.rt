@@ -32,21 +32,21 @@ impl<K: Eq + Drop, V: Drop, H: KeyHash<K>, L: LruList + Drop, const TYPE: u8> Ha
     L,
     TYPE,
 > {
-    /// Lends the current buckets from `start` on for writing, one after the other, until the
-    /// visitor returns false.
+    /// Lends the current buckets from `start` on for writing, one after another, until the visitor
+    /// returns false.
     ///
-    /// If the current array doesn't have the expected length, the walk begins at the bucket with
-    /// the first hash of bucket `start` of an array of that length. Works a unit before each visit.
-    /// If the visitor has set its flag and the first buckets have few pairs, the walk ends with a
-    /// resize.
+    /// If the current array doesn't have the expected length, the walk begins at the bucket that is
+    /// home to the first hash of bucket `start` of an array of that length. Works a unit before
+    /// each visit. If the visitor has set its flag and the first buckets have few pairs, the walk
+    /// ends with a resize.
     ///
     /// # Errors
     ///
-    /// Allocation failed, which can happen only if there is an old array: a source of the next
-    /// bucket isn't killed, the walk ends there, what the earlier visits did stays, and nothing is
-    /// resized.
+    /// Allocation failed, which can happen only if there is an old array. A source of the next
+    /// bucket isn't killed, and the walk ends there; the changes by earlier visits stay, and
+    /// nothing is resized.
     ///
-    /// O(buckets from `start` on, and pairs that move), and the visitor's calls. scc:
+    /// O(buckets from `start` on, and pairs that move), plus the visitor's calls. scc:
     /// `HashTable::for_each_writer_sync`.
     pub fn for_each_writer_sync<F: Visit<Bucket<K, V, L, TYPE>>>(
         &mut self,
@@ -82,16 +82,16 @@ impl<K: Eq + Drop, V: Drop, H: KeyHash<K>, L: LruList + Drop, const TYPE: u8> Ha
         Ok(())
     }
 
-    /// Lends the current buckets for reading, one after the other, until the reader returns false.
+    /// Lends the current buckets for reading, one after another, until the reader returns false.
     ///
     /// Works a unit before each visit.
     ///
     /// # Errors
     ///
-    /// Allocation failed, which can happen only if there is an old array: a source of the next
+    /// Allocation failed, which can happen only if there is an old array. A source of the next
     /// bucket isn't killed, and the walk ends there.
     ///
-    /// O(buckets, and pairs that move), and the reader's calls. scc:
+    /// O(buckets, and pairs that move), plus the reader's calls. scc:
     /// `HashTable::for_each_reader_sync`.
     pub fn for_each_reader_sync<F: Read<Bucket<K, V, L, TYPE>>>(
         &mut self,
@@ -124,7 +124,7 @@ impl<K: Eq + Drop, V: Drop, H: KeyHash<K>, L: LruList + Drop, const TYPE: u8> Ha
     /// States that a bucket fits in memory; does nothing at run time. Generic code calls it before
     /// a walk.
     ///
-    /// O(1). Own.
+    /// O(1).
     pub fn room(&self)
         requires array_stands { 0 < length self.now.arrays.current }
         ensures { BucketFits K.row V.row L.row TYPE.row
@@ -177,7 +177,7 @@ impl<K: Eq + Drop, V: Drop, H: KeyHash<K>, L: LruList + Drop, const TYPE: u8> Ha
         more
     }
 
-    /// Resizes the current array where its first buckets have few live slots.
+    /// Resizes the current array if its first buckets have few live slots.
     fn shrink(&mut self)
         ensures hasher { self.new.hasher ≡ self.old.hasher }
         ensures kept { Keeps self.old.arrays self.new.arrays }
@@ -188,8 +188,8 @@ impl<K: Eq + Drop, V: Drop, H: KeyHash<K>, L: LruList + Drop, const TYPE: u8> Ha
     }
 }
 
-/// Returns the index in an array of `len` buckets at which a walk begins whose `start` is an index
-/// in an array of `expected_len` buckets.
+/// Returns the index in an array of `len` buckets at which a walk begins, if `start` is an index in
+/// an array of `expected_len` buckets.
 fn first_index(start: usize, expected_len: usize, len: usize) -> usize
     requires expected { expected_len ≢ 0 → IsPowerOfTwo expected_len × (start < expected_len) }
     requires length { 0 < len → IsLength len }

@@ -1,4 +1,4 @@
-//! A bucket found for a writer, and locked: lent with its table.
+//! A bucket that is found for a writer and locked: lent with its table.
 //!
 //! Model: `LockedBucket`, the table, a side and an index.
 //! Invariant (`IsLocked`): a current bucket has all its sources killed; an old one isn't killed,
@@ -40,8 +40,8 @@ impl<K: Eq + Drop, V: Drop, H: KeyHash<K>, L: LruList + Drop, const TYPE: u8> Ha
     ///
     /// # Errors
     ///
-    /// There is no array, and so no pair; or allocation failed while there is an old array: a
-    /// source of the home isn't killed.
+    /// There is no array, and so no pair; or there is an old array and allocation failed: a source
+    /// of the home isn't killed.
     ///
     /// O(unit). scc: `HashTable::dedup_bucket_sync`, `incremental_rehash_sync`.
     #[inline(always)]
@@ -62,16 +62,16 @@ impl<K: Eq + Drop, V: Drop, H: KeyHash<K>, L: LruList + Drop, const TYPE: u8> Ha
     ///
     /// If the rule is `ResizeRule::Counted` and the home is overfull, the slots are doubled, and
     /// the bucket is the home in the array that has just become the old one. Otherwise a unit is
-    /// worked, and a first array is made if there is none. Then, if the home is nearly full and
-    /// many slots near it are live, the table is resized, and the bucket is again one of the old
-    /// array.
+    /// worked, and a first array is allocated if there is none. Then, if the home is nearly full
+    /// and many slots near it are live, the table is resized, and the bucket is again one of the
+    /// old array.
     ///
     /// # Errors
     ///
-    /// Allocation failed, for a first array, or while there is an old one: then a source of the
-    /// home isn't killed.
+    /// Allocation failed, either for a first array, or while there is an old array: then a source
+    /// of the home isn't killed.
     ///
-    /// O(unit; buckets that a resize makes). Own.
+    /// O(unit; buckets that a resize makes).
     #[inline(always)]
     pub fn find(&mut self, hash: u64, rule: ResizeRule) -> Result<(Side, usize), AllocError>
         ensures { Finds rule TYPE hash self.old result self.new }
@@ -87,7 +87,7 @@ impl<K: Eq + Drop, V: Drop, H: KeyHash<K>, L: LruList + Drop, const TYPE: u8> Ha
         }
     }
 
-    /// Finds the bucket for a writer of a hash, with no growth for an overfull home.
+    /// Finds the bucket for a writer of a hash, without growing for an overfull home.
     #[inline(always)]
     fn find_by_plan(&mut self, hash: u64) -> Result<(Side, usize), AllocError>
         ensures { (rule : ResizeRule) → Finds rule TYPE hash self.old result self.new }
@@ -95,10 +95,10 @@ impl<K: Eq + Drop, V: Drop, H: KeyHash<K>, L: LruList + Drop, const TYPE: u8> Ha
         self.arrays.find(&self.hasher, hash)
     }
 
-    /// Finds the bucket for a writer of a hash whose home is ready, and returns its side and its
-    /// index: as `find` does, once the unit was worked.
+    /// Finds the bucket for a writer of a hash whose home is ready, as `find` does after it has
+    /// worked the unit. Returns its side and its index.
     ///
-    /// O(buckets that a resize makes). Own.
+    /// O(buckets that a resize makes).
     #[inline(always)]
     pub(super) fn find_ready(&mut self, hash: u64) -> (Side, usize)
         requires ready { IsReady self.old.arrays hash }
@@ -113,8 +113,8 @@ impl<K: Eq + Drop, V: Drop, H: KeyHash<K>, L: LruList + Drop, const TYPE: u8> Ha
         (side, index)
     }
 
-    /// Returns the bucket that `find` finds for a writer of a hash, a current one, if the array has
-    /// at most four buckets and `find` changes nothing.
+    /// Returns the current bucket that `find` would return for a writer of a hash, if the array has
+    /// at most four buckets and `find` would change nothing.
     #[inline(always)]
     pub(super) fn short_home(&self, hash: u64) -> Option<usize>
         ensures { IfSome result (λ index. (rule : ResizeRule)
@@ -123,8 +123,8 @@ impl<K: Eq + Drop, V: Drop, H: KeyHash<K>, L: LruList + Drop, const TYPE: u8> Ha
         self.arrays.short_home(hash)
     }
 
-    /// Returns the bucket that `find` finds for a writer of a hash, a current one, if its digest
-    /// shows that `find` changes nothing.
+    /// Returns the current bucket that `find` would return for a writer of a hash, if its digest
+    /// shows that `find` would change nothing.
     #[inline(always)]
     pub(super) fn roomy_home(&self, hash: u64) -> Option<usize>
         ensures { IfSome result (λ index. (rule : ResizeRule)
@@ -133,11 +133,11 @@ impl<K: Eq + Drop, V: Drop, H: KeyHash<K>, L: LruList + Drop, const TYPE: u8> Ha
         self.arrays.roomy_home(hash)
     }
 
-    /// Locks a bucket of one side, as `find` returns it.
+    /// Locks a bucket of one side, as returned by `find`.
     ///
     /// A current bucket can be locked if all its sources are killed. An old one can be locked from
-    /// a resize until the first pair moves: while it isn't killed and every current bucket is
-    /// vacant.
+    /// a resize until the first pair moves, that is, while it isn't killed and every current bucket
+    /// is vacant.
     ///
     /// O(1).
     #[inline(always)]
@@ -157,7 +157,7 @@ impl<K: Eq + Drop, V: Drop, H: KeyHash<K>, L: LruList + Drop, const TYPE: u8> Ha
 
     /// Locks the home of a hash in the current array, whose sources are killed.
     ///
-    /// O(1). Own.
+    /// O(1).
     pub fn lock_home(&mut self, hash: u64) -> LockedBucket<'_, K, V, H, L, TYPE>
         requires ready { IsReady self.old.arrays hash }
         ensures same_table { result.table.ghost_name ≡ self.entry.ghost_name }
@@ -178,8 +178,8 @@ impl<K: Eq + Drop, V: Drop, H: KeyHash<K>, L: LruList + Drop, const TYPE: u8> Ha
     ///
     /// # Errors
     ///
-    /// Allocation failed, for a first array, or while there is an old one: then a source of the
-    /// home isn't killed. This can't happen if there is a current array and no old one.
+    /// Allocation failed, either for a first array, or while there is an old array: then a source
+    /// of the home isn't killed. This can't happen if there is a current array and no old one.
     ///
     /// O(unit; buckets that a resize makes). scc: `HashTable::writer_sync`.
     #[inline(always)]
@@ -233,8 +233,8 @@ impl<K: Eq + Drop, V: Drop, H: KeyHash<K>, L: LruList + Drop, const TYPE: u8> Ha
     ///
     /// # Errors
     ///
-    /// There is no array, and so no pair; or allocation failed while there is an old array: a
-    /// source of the home isn't killed.
+    /// There is no array, and so no pair; or there is an old array and allocation failed: a source
+    /// of the home isn't killed.
     ///
     /// O(unit). scc: `HashTable::optional_writer_sync`.
     pub fn optional_writer_sync(
@@ -262,10 +262,10 @@ impl<K: Eq + Drop, V: Drop, H: KeyHash<K>, L: LruList + Drop, const TYPE: u8> Ha
         }
     }
 
-    /// Locks the home of a hash, and works no unit. Returns `None` if there is no array, if there
-    /// is an old one, or if `CHECK_SIZE` is set and the home has 32 live pairs or more.
+    /// Locks the home of a hash without working a unit. Returns `None` if there is no array, if
+    /// there is an old one, or if `CHECK_SIZE` is set and the home has 32 live pairs or more.
     ///
-    /// Takes no memory. O(1). scc: `HashTable::try_optional_writer`.
+    /// Allocates nothing. O(1). scc: `HashTable::try_optional_writer`.
     pub fn try_optional_writer<const CHECK_SIZE: bool>(
         &mut self,
         hash: u64,

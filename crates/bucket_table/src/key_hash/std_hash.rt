@@ -1,19 +1,19 @@
-//! Std's hashes as hashes of keys.
+//! Hashes of std as hashes of keys.
 ghost use Rattle.std.specs.Prelude.{◌≡◌};
 
 use crate::key_hash::KeyHash;
 use std::hash::{BuildHasher, Hash};
 
-/// Hashes a key as std's maps do: a builder makes a new hasher for each key, and the key writes
-/// itself into it. Own.
+/// Hashes a key as std's maps do: a `BuildHasher` makes a new hasher for each key, and the key is
+/// written into it.
 #[derive(Clone, Drop)]
 pub struct StdHash<S> {
-    /// What makes the hashers.
+    /// The builder of the hashers.
     pub builder: S,
 }
 
 impl<S> StdHash<S> {
-    /// Hashes by a builder of hashers. Own.
+    /// Returns a hash function that takes its hashers from a builder.
     pub fn new(builder: S) -> Self
         ensures { result.builder ≡ builder }
     {

@@ -15,7 +15,7 @@ use crate::visit::{Read, Visit};
 use bucket_slots::bucket::{Bucket, Generation};
 use bucket_slots::lru::LruList;
 
-/// Counts the buckets that it is lent, and their pairs.
+/// A visitor that counts the buckets that it is lent, and their pairs.
 #[derive(Drop)]
 struct Tally {
     buckets: usize,
@@ -37,8 +37,8 @@ impl<K, V, L: LruList, const TYPE: u8> Read<Bucket<K, V, L, TYPE>> for Tally {
     }
 }
 
-/// Takes all pairs out of the buckets that it is lent, or makes them tombstones in an index, and
-/// counts them.
+/// A visitor that removes all pairs of the buckets that it is lent and counts them. In an index
+/// they become tombstones.
 #[derive(Drop)]
 struct Emptier<'a, G> {
     generation: &'a G,
@@ -88,7 +88,7 @@ pub(super) fn walk<K: Eq + Copy, V: Copy, H: KeyHash<K>, L: LruList + Drop, cons
     }
 }
 
-/// States that an emptier does what a walk requires of its visitor; does nothing at run time.
+/// States that an `Emptier` does what a walk requires of its visitor; does nothing at run time.
 fn empties_keep<K, V, G: Generation, const TYPE: u8>()
     ensures { KeepsBuckets
         (λ (emptier : Emptier G) (lent : BucketView K V) flag more left last after.
@@ -96,7 +96,7 @@ fn empties_keep<K, V, G: Generation, const TYPE: u8>()
         after.count) }
 {}
 
-/// Takes all pairs out, or makes them tombstones in an index.
+/// Removes all pairs. In an index they become tombstones.
 pub(super) fn clear<
     K: Eq + Copy,
     V: Copy,

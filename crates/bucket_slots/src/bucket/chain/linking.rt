@@ -1,4 +1,4 @@
-//! The blocks of a chain, linked and unlinked.
+//! Linking and unlinking the blocks of a chain.
 #![tactic(auto, using(crate::proofs::ChainRows::chain_rows))]
 
 ghost use Rattle.std.specs.Prelude.{◌≡◌, ℕ, ◌+◌, ◌-◌, ◌<◌, ◌≤◌, ◌∷◌, ◌++◌, [], Some};
@@ -21,11 +21,11 @@ use std::alloc::{AllocError, Global};
 use std::mem::replace;
 
 impl<K: Drop, V: Drop> Chain<K, V> {
-    /// Puts a block of free slots in front.
+    /// Puts a block of free slots at the front.
     ///
     /// # Errors
     ///
-    /// Allocation failed, or the chain has 2^28 blocks already: it is unchanged.
+    /// Allocation failed, or the chain already has 2^28 blocks: it is unchanged.
     pub(crate) fn push_front(&mut self) -> Result<(), AllocError>
         ensures blocks { OnOk result (self.new ≡ free_block ∷ self.old) }
         ensures unchanged { OnErr result (self.new ≡ self.old) }
@@ -67,7 +67,7 @@ impl<K: Drop, V: Drop> Chain<K, V> {
         }
     }
 
-    /// Returns blocks of free slots: `count`, or fewer if allocation fails.
+    /// Returns `count` blocks of free slots, or fewer if allocation fails.
     fn free_blocks(alloc: Global, count: usize) -> Self
         ensures most { length result ≤ count }
         ensures free { result ≡ replicate (length result) free_block }
@@ -90,7 +90,7 @@ impl<K: Drop, V: Drop> Chain<K, V> {
 
     /// Takes the pair out of a live slot of a block, and drops the block if it is then all free.
     /// Returns the pair, and the place for the pointer to the slot: the same if the block stays,
-    /// else before the next block, or behind the previous one if there is no next.
+    /// else before the next block, or at the end of the previous one if there is no next.
     pub(crate) fn take<const TYPE: u8>(
         &mut self,
         block: usize,
@@ -117,7 +117,7 @@ impl<K: Drop, V: Drop> Chain<K, V> {
         (pair, EntryPtr::at(block, BUCKET_LEN - 1))
     }
 
-    /// Drops each tombstone whose epoch the test doesn't keep. No block is dropped.
+    /// Drops each tombstone whose epoch the generation doesn't keep. No block is dropped.
     pub(crate) fn drop_expired<G: Generation>(&mut self, generation: &G)
         ensures { self.new ≡ map (map (slot_without_expired (G.keeps generation.now))) self.old }
     {

@@ -1,4 +1,4 @@
-//! Pairs that move from a row to the own slots of buckets.
+//! Moves of pairs from a row to the own slots of buckets.
 ghost use Rattle.std.specs.Prelude.{◌≡◌, ◌≢◌, ◌+◌, ◌<◌, ◌≤◌, ◌^◌, [], length};
 ghost use Rattle.bucket_slots.specs.Layout.OwnSpreading.{SpreadsOwn};
 ghost use Rattle.bucket_slots.specs.Spreading.{IsShifted};
@@ -11,10 +11,10 @@ use crate::bucket::{Bucket, CACHE, EntryPtr};
 use crate::lru::LruList;
 
 impl<K: Drop, V: Drop, const LEN: usize> Row<K, V, LEN> {
-    /// Moves live pairs, the first ones in slot order, as `Bucket::spread_own` does. The row is the
-    /// own slots of a bucket with this LRU list and tail.
+    /// Moves live pairs, the first ones in slot order, as `Bucket::spread_own` does. The row must
+    /// be the own slots of the bucket with this LRU list and tail.
     ///
-    /// The loop only empties the places; the bitmap of the occupied slots is written once, at the
+    /// The loop only empties the places. The bitmap of the occupied slots is written once, at the
     /// end.
     #[inline(always)]
     pub(crate) fn spread<L: LruList, F: Fn(&K) -> u64, const TYPE: u8>(

@@ -4,7 +4,7 @@ use Rattle.bucket_table.specs.Walking.Retains.{IsLeftOf}
 use Rattle.bucket_table.proofs.Walking.RetainingEach.{IsAsking}
 use Rattle.bucket_table.proofs.retain.retain_each_in.Given as goal
 
--- the closure can be called again, and was asked for each pair that is no more ahead; the bucket is left so
+-- the closure can be called again, and was called with each pair that is no longer ahead, and the bucket is what is left after that
 abbrev pub invariant-own : goal.invariant-own
 invariant-own g l =
     always_mut g.F.FnMut l.keep

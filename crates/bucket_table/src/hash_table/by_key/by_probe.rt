@@ -1,6 +1,4 @@
-//! Calls by a probe that wants keys of one hash alone. They change the pair that it wants.
-//!
-//! Own.
+//! Calls by a probe that matches only keys of one hash. They change the pair that matches.
 ghost use Rattle.std.specs.Prelude.{◌≡◌, ◌≢◌, IfNone, IfSome, is_some, true};
 ghost use Rattle.std.specs.Borrow.{Bor};
 ghost use Rattle.bucket_slots.specs.Marking.{MarksBy, slots_marked};
@@ -26,13 +24,13 @@ impl<K: Eq + Drop, V: Drop, H: KeyHash<K>, L: LruList + Drop, const TYPE: u8> Ha
     L,
     TYPE,
 > {
-    /// Removes the first pair that a probe wants, and returns it. `None` exactly if the map has
-    /// none. The probe wants keys of this hash alone.
+    /// Removes the first pair that matches a probe and returns it, or `None` exactly if the map has
+    /// none. The probe must match only keys of this hash.
     ///
-    /// Works a unit. May take memory, and never fails. If no live pair is left in the bucket, the
+    /// Works a unit. May allocate, and never fails. If no live pair is left in the bucket, the
     /// table may shrink, by the rule `rule`.
     ///
-    /// O(unit; buckets if it shrinks). Own.
+    /// O(unit; buckets if it shrinks).
     #[inline(always)]
     pub fn take_by<P: KeyProbe<K>>(
         &mut self,
@@ -62,14 +60,14 @@ impl<K: Eq + Drop, V: Drop, H: KeyHash<K>, L: LruList + Drop, const TYPE: u8> Ha
         taken
     }
 
-    /// Calls `reader` with the first pair of an index that a probe wants, makes the pair a
-    /// tombstone, and returns the reader's answer. `None` exactly if the map has none; `reader`
-    /// isn't called then. The probe wants keys of this hash alone.
+    /// Calls `reader` with the first pair of an index that matches a probe, makes the pair a
+    /// tombstone, and returns the result of `reader`. Returns `None` exactly if the map has none;
+    /// then `reader` isn't called. The probe must match only keys of this hash.
     ///
-    /// Works a unit. May take memory, and never fails. If no live pair is left in the bucket, the
+    /// Works a unit. May allocate, and never fails. If no live pair is left in the bucket, the
     /// table may shrink, by the rule `rule`.
     ///
-    /// O(unit; buckets if it shrinks). Own.
+    /// O(unit; buckets if it shrinks).
     pub fn mark_by<R, F: FnOnce(&K, &V) -> R, G: Generation, P: KeyProbe<K>>(
         &mut self,
         hash: u64,
@@ -110,7 +108,7 @@ impl<K: Eq + Drop, V: Drop, H: KeyHash<K>, L: LruList + Drop, const TYPE: u8> Ha
 }
 
 impl<K: Eq, V, H: KeyHash<K>, L: LruList, const TYPE: u8> HashTable<K, V, H, L, TYPE> {
-    /// Returns how many pairs a removal leaves, if the rule goes by it.
+    /// Returns the number of pairs that a removal leaves, if the rule depends on it.
     #[inline(always)]
     fn pairs_left(&self, rule: ResizeRule) -> Option<usize>
         ensures { result ≡ pairs_left rule self.now.arrays }
@@ -121,10 +119,10 @@ impl<K: Eq, V, H: KeyHash<K>, L: LruList, const TYPE: u8> HashTable<K, V, H, L, 
         }
     }
 
-    /// Returns the first live slot that a probe wants, on either side; `None` where the map has
-    /// none. Moves nothing, and takes no memory.
+    /// Returns the first live slot that matches a probe, on either side, or `None` if the map has
+    /// none. Moves and allocates nothing.
     ///
-    /// O(blocks in two chains). Own.
+    /// O(blocks in two chains).
     #[inline(always)]
     pub fn spot_by<P: KeyProbe<K>>(&self, hash: u64, probe: &mut P) -> Option<Spot<K, V, TYPE>>
         requires own_hash { (key : K)
@@ -141,8 +139,8 @@ impl<K: Eq, V, H: KeyHash<K>, L: LruList, const TYPE: u8> HashTable<K, V, H, L, 
         }
     }
 
-    /// Returns the first live slot that a probe wants, where each source of the hash's home is
-    /// killed; `None` where the map has none.
+    /// Returns the first live slot that matches a probe, or `None` if the map has none. Each source
+    /// of the hash's home must be killed.
     #[inline(always)]
     pub(super) fn spot_at_home<P: KeyProbe<K>>(
         &self,

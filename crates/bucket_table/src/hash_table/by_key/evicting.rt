@@ -1,6 +1,4 @@
 //! Calls by key that evict a pair of a cache.
-//!
-//! Own.
 ghost use Rattle.std.specs.Prelude.{◌≡◌, ◌%◌, ℕ, Bool, Err, IsOk, Ok, Option, length, true};
 ghost use Rattle.bucket_slots.specs.BucketView.{BucketView};
 ghost use Rattle.bucket_slots.specs.Homes.{IsHome};
@@ -37,16 +35,17 @@ impl<K: Eq + Drop, V: Drop, H: KeyHash<K>, L: LruList + Drop, const TYPE: u8> Ha
     TYPE,
 > {
     /// Evicts the pair of a key's home that was touched longest ago, or the one in slot 0 if none
-    /// is listed, and returns it. `None` if an own slot of that home is free, or there is no array.
+    /// is listed, and returns it. Returns `None` if an own slot of that home is free, or if there
+    /// is no array.
     ///
     /// Works a unit. The table isn't shrunk.
     ///
     /// # Errors
     ///
-    /// Allocation failed, which can happen only if there is an old array: a source of the home
+    /// Allocation failed, which can happen only if there is an old array. A source of the home
     /// isn't killed, and nothing is evicted.
     ///
-    /// O(unit). Own.
+    /// O(unit).
     pub fn evict(&mut self, key: &K) -> Result<Option<(K, V)>, AllocError>
         requires cache { TYPE ≡ CACHE }
         ensures map { Evicts (state_of TYPE self.old) result (state_of TYPE self.new) }
@@ -63,14 +62,14 @@ impl<K: Eq + Drop, V: Drop, H: KeyHash<K>, L: LruList + Drop, const TYPE: u8> Ha
         Ok(locked.evict_lru_head())
     }
 
-    /// Inserts a pair whose key is absent into a cache, as the one touched last in its bucket. If
-    /// no own slot of that bucket is free, the pair that was touched longest ago, or the one in
-    /// slot 0 if none is listed, is evicted first and returned.
+    /// Inserts a pair into a cache if its key is absent, as the one touched last in its bucket. If
+    /// no own slot of that bucket is free, it first evicts the pair that was touched longest ago,
+    /// or the one in slot 0 if none is listed, and returns it.
     ///
     /// # Errors
     ///
-    /// The key is in the map; or allocation failed, and the key is absent: the pair is returned,
-    /// and none is evicted.
+    /// The key is in the map, or it is absent and allocation failed: the pair is returned, and none
+    /// is evicted.
     ///
     /// O(unit; buckets that a resize makes). scc: `HashCache::put_sync`.
     pub fn put(&mut self, key: K, value: V) -> Result<Option<(K, V)>, NotInserted<K, V>>
@@ -85,18 +84,17 @@ impl<K: Eq + Drop, V: Drop, H: KeyHash<K>, L: LruList + Drop, const TYPE: u8> Ha
     }
 
     /// Inserts a pair whose key is absent into a cache, as `put` does, after `fetch_place` or
-    /// `touch_place` found no equal key, without another search. Returns the evicted pair, if there
-    /// is one.
+    /// `touch_place` found no equal key. It doesn't search again. Returns the evicted pair, if any.
     ///
     /// If the home has as many pairs as own slots, there is no old array, and twice the slots do
-    /// not pass the maximum, the slots are doubled first, a unit is worked, and the home's pairs
-    /// move on, so that a pair is evicted only if the home is full then too or allocation fails.
+    /// not exceed the maximum, it first doubles the slots, works a unit and moves the home's pairs.
+    /// So a pair is evicted only if the home is still full then, or if allocation fails.
     ///
     /// # Errors
     ///
     /// Allocation failed: the pair is returned, and none is evicted.
     ///
-    /// O(1), and buckets that a resize makes.
+    /// O(1), and the buckets that a resize makes.
     #[inline(always)]
     pub fn put_vacant(
         &mut self,
@@ -128,9 +126,9 @@ impl<K: Eq + Drop, V: Drop, H: KeyHash<K>, L: LruList + Drop, const TYPE: u8> Ha
         }
     }
 
-    /// Doubles the slots for the home of a hash, which is ready, if it has as many pairs as own
-    /// slots, no old array stands, and twice the slots do not pass the maximum; then the home is
-    /// ready again. If allocation fails, nothing changes.
+    /// Doubles the slots for the home of a hash, which must be ready, if it has as many pairs as
+    /// own slots, there is no old array, and twice the slots do not exceed the maximum. The home is
+    /// then ready again. If allocation fails, nothing changes.
     fn split_home(&mut self, hash: u64)
         requires ready { IsReady self.old.arrays hash }
         ensures map { KeepsPairs (state_of TYPE self.old) (state_of TYPE self.new) }
@@ -176,7 +174,7 @@ impl<K: Eq + Drop, V: Drop, H: KeyHash<K>, L: LruList + Drop, const TYPE: u8> Ha
         self.put_at(side, index, hash, key, value)
     }
 
-    /// Inserts a pair into a locked bucket, where its key is absent. Returns the evicted pair.
+    /// Inserts a pair into a locked bucket if its key is absent there. Returns the evicted pair.
     #[inline(always)]
     fn put_absent(
         &mut self,
@@ -233,8 +231,8 @@ impl<K: Eq + Drop, V: Drop, H: KeyHash<K>, L: LruList + Drop, const TYPE: u8> Ha
     }
 }
 
-/// Inserts a pair into a bucket as the one touched last, if no live slot there has an equal key,
-/// and returns the evicted pair.
+/// Inserts a pair into a bucket as the one touched last, if no live slot there has an equal key.
+/// Returns the evicted pair.
 fn put_in<K: Eq + Drop, V: Drop, L: LruList, const TYPE: u8>(
     bucket: &mut Bucket<K, V, L, TYPE>,
     hash: u64,
@@ -250,7 +248,7 @@ fn put_in<K: Eq + Drop, V: Drop, L: LruList, const TYPE: u8>(
     Ok(put_absent_in(bucket, hash, key, value))
 }
 
-/// Inserts a pair into a bucket as the one touched last, and returns the evicted pair.
+/// Inserts a pair into a bucket as the one touched last. Returns the evicted pair.
 #[inline(always)]
 fn put_absent_in<K: Drop, V: Drop, L: LruList, const TYPE: u8>(
     bucket: &mut Bucket<K, V, L, TYPE>,
@@ -272,7 +270,7 @@ fn put_absent_in<K: Drop, V: Drop, L: LruList, const TYPE: u8>(
 }
 
 /// States that a put inserts its pair into an own slot, so that no chain changes; does nothing at
-/// run time. Own.
+/// run time.
 pub fn puts_keep_chains<K, V>()
     ensures { (keeps : Bool) (bucket : BucketView K V) (gone : Option (K × V)) (pair : K × V)
         (byte : ℕ) → Goes bucket gone

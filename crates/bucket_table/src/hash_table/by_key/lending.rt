@@ -1,6 +1,4 @@
-//! The calls that lend a value for writing, by key and by a probe.
-//!
-//! Own.
+//! The calls that lend a value for writing, by key or by a probe.
 ghost use Rattle.std.specs.Prelude.{◌≡◌, IfNone, IfSome, false, true};
 ghost use Rattle.std.specs.Borrow.{sem};
 ghost use Rattle.bucket_table.specs.Map.LookingUp.{IsAbsent, IsThere};
@@ -20,12 +18,13 @@ impl<K: Eq + Drop, V: Drop, H: KeyHash<K>, L: LruList + Drop, const TYPE: u8> Ha
 > {
     ghost use Rattle.bucket_table.specs.Map.Lending.{LendsUnder};
 
-    /// Lends the value beside the equal key for writing. `None` exactly if the map has none.
+    /// Lends the value of the pair with an equal key for writing, or returns `None` exactly if the
+    /// map has none.
     ///
-    /// Once the loan ends, the pair has the value last written, and no other pair has changed.
-    /// Works a unit. May take memory, and never fails.
+    /// Once the loan ends, the pair has the value that was last written, and no other pair has
+    /// changed. Works a unit. May allocate, and never fails.
     ///
-    /// O(unit). Own.
+    /// O(unit).
     #[inline(always)]
     pub fn get_mut(&mut self, key: &K) -> Option<&mut V>
         ensures* writes_back { sem 𝓛
@@ -42,13 +41,13 @@ impl<K: Eq + Drop, V: Drop, H: KeyHash<K>, L: LruList + Drop, const TYPE: u8> Ha
         self.get_mut_by(hash, &mut EqProbe::new(key))
     }
 
-    /// Lends the value of the first pair that a probe wants for writing. `None` exactly if the map
-    /// has none. The probe wants keys of this hash alone.
+    /// Lends the value of the first pair that matches a probe for writing, or returns `None`
+    /// exactly if the map has none. The probe must match only keys of this hash.
     ///
-    /// Once the loan ends, the pair has the value last written, and no other pair has changed.
-    /// Works a unit. May take memory, and never fails.
+    /// Once the loan ends, the pair has the value that was last written, and no other pair has
+    /// changed. Works a unit. May allocate, and never fails.
     ///
-    /// O(unit). Own.
+    /// O(unit).
     #[inline(always)]
     pub fn get_mut_by<P: KeyProbe<K>>(&mut self, hash: u64, probe: &mut P) -> Option<&mut V>
         requires own_hash { (key : K)
@@ -69,14 +68,14 @@ impl<K: Eq + Drop, V: Drop, H: KeyHash<K>, L: LruList + Drop, const TYPE: u8> Ha
         }
     }
 
-    /// Makes the first pair of a cache that a probe wants the one touched last in its bucket, as
-    /// `touch_by` does, and lends its value for writing. `None` exactly if the map has none. The
-    /// probe wants keys of this hash alone.
+    /// Makes the first pair of a cache that matches a probe the one touched last in its bucket, as
+    /// `touch_by` does, and lends its value for writing. Returns `None` exactly if the map has
+    /// none. The probe must match only keys of this hash.
     ///
-    /// Once the loan ends, the pair has the value last written, and no other pair has changed.
-    /// Works a unit. May take memory, and never fails.
+    /// Once the loan ends, the pair has the value that was last written, and no other pair has
+    /// changed. Works a unit. May allocate, and never fails.
     ///
-    /// O(unit). Own.
+    /// O(unit).
     #[inline(always)]
     pub fn touch_mut_by<P: KeyProbe<K>>(&mut self, hash: u64, probe: &mut P) -> Option<&mut V>
         requires cache { TYPE ≡ CACHE }

@@ -1,6 +1,4 @@
-//! The call by key that replaces the pair whose key is equal.
-//!
-//! Own.
+//! The call by key that replaces the pair with an equal key.
 ghost use Rattle.std.specs.Prelude.{◌≡◌, ◌%◌, Some, is_ok};
 ghost use Rattle.bucket_slots.specs.BucketView.{slot_in};
 ghost use Rattle.bucket_slots.specs.Replacing.{slots_replaced};
@@ -24,16 +22,16 @@ impl<K: Eq + Drop, V: Drop, H: KeyHash<K>, L: LruList + Drop, const TYPE: u8> Ha
     L,
     TYPE,
 > {
-    /// Replaces the pair whose key is equal by another one, and returns the earlier one. The slot
+    /// Replaces the pair with an equal key by another one, and returns the previous pair. The slot
     /// leaves the LRU list.
     ///
-    /// Works a unit. May take memory, and never fails.
+    /// Works a unit. May allocate, and never fails.
     ///
     /// # Errors
     ///
     /// The key is absent: the pair is returned.
     ///
-    /// O(unit). Own.
+    /// O(unit).
     #[inline(always)]
     pub fn replace(&mut self, key: K, value: V) -> Result<(K, V), (K, V)>
         ensures map { Replaces K.eq key value (state_of TYPE self.old) result
@@ -52,7 +50,7 @@ impl<K: Eq + Drop, V: Drop, H: KeyHash<K>, L: LruList + Drop, const TYPE: u8> Ha
         }
     }
 
-    /// Replaces a pair whose key is equal by another one, and returns the earlier one.
+    /// Replaces a pair with an equal key by another one, and returns the previous pair.
     #[inline(always)]
     fn replace_at(&mut self, spot: &Spot<K, V, TYPE>, hash: u64, key: K, value: V) -> (K, V)
         requires stands { StandsAt (λ own. K.eq own key) self.old.arrays spot.now.side

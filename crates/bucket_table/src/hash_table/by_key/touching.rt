@@ -1,6 +1,4 @@
-//! The place of a pair that a probe wants, once its home is ready, and touching it there.
-//!
-//! Own.
+//! Finding the pair that matches a probe, once its home is ready, and touching it.
 ghost use Rattle.std.specs.Prelude.{◌≡◌, IfErr, IfNone, IfOk, IfSome, OnErr, true};
 ghost use Rattle.bucket_slots.specs.Evicting.{slots_touched};
 ghost use Rattle.bucket_table.specs.Map.ByKey.{ChangesAt, ChangesPlace};
@@ -24,13 +22,13 @@ impl<K: Eq + Drop, V: Drop, H: KeyHash<K>, L: LruList + Drop, const TYPE: u8> Ha
     L,
     TYPE,
 > {
-    /// Makes the first pair of a cache that a probe wants the one touched last in its bucket; a
-    /// slot of the chain isn't listed. Returns whether there is one. The probe wants keys of this
-    /// hash alone.
+    /// Makes the first pair of a cache that matches a probe the one touched last in its bucket; a
+    /// slot of the chain isn't listed. Returns whether there is such a pair. The probe must match
+    /// only keys of this hash.
     ///
-    /// Works a unit. May take memory, and never fails.
+    /// Works a unit. May allocate, and never fails.
     ///
-    /// O(unit). Own.
+    /// O(unit).
     #[inline(always)]
     pub fn touch_by<P: KeyProbe<K>>(&mut self, hash: u64, probe: &mut P) -> bool
         requires cache { TYPE ≡ CACHE }
@@ -49,16 +47,16 @@ impl<K: Eq + Drop, V: Drop, H: KeyHash<K>, L: LruList + Drop, const TYPE: u8> Ha
         true
     }
 
-    /// Makes the first pair of a cache that a probe wants the one touched last in its bucket, as
-    /// `touch_by` does, and returns its place. The probe wants keys of this hash alone.
+    /// Makes the first pair of a cache that matches a probe the one touched last in its bucket, as
+    /// `touch_by` does, and returns its place. The probe must match only keys of this hash.
     ///
-    /// Works a unit. May take memory, and never fails.
+    /// Works a unit. May allocate, and never fails.
     ///
     /// # Errors
     ///
     /// The map has no such pair. The error is the `Vacancy` for `put_vacant`.
     ///
-    /// O(unit). Own.
+    /// O(unit).
     #[inline(always)]
     pub fn touch_place<P: KeyProbe<K>>(
         &mut self,
@@ -90,8 +88,8 @@ impl<K: Eq + Drop, V: Drop, H: KeyHash<K>, L: LruList + Drop, const TYPE: u8> Ha
         }
     }
 
-    /// Works a unit, moves the sources of a hash's home, and returns the first live slot that a
-    /// probe wants, on either side; `None` where the map has none.
+    /// Works a unit, moves the sources of a hash's home, and returns the first live slot that
+    /// matches a probe, on either side, or `None` if the map has none.
     #[inline(always)]
     pub(super) fn fetch_spot<P: KeyProbe<K>>(
         &mut self,
@@ -114,9 +112,9 @@ impl<K: Eq + Drop, V: Drop, H: KeyHash<K>, L: LruList + Drop, const TYPE: u8> Ha
     }
 
     /// Works a unit, moves the sources of a hash's home, and returns the place of the first pair
-    /// that matches a probe. The probe matches keys of this hash alone.
+    /// that matches a probe. The probe must match only keys of this hash.
     ///
-    /// May take memory, and never fails for lack of it.
+    /// May allocate; a failed allocation is no error here.
     ///
     /// # Errors
     ///

@@ -1,6 +1,4 @@
-//! Calls by key that write the value of a pair. Where the map has the pair, they never fail.
-//!
-//! Own.
+//! Calls by key that write the value of a pair. They never fail if the map has the pair.
 ghost use Rattle.std.specs.Prelude.{◌≡◌, ◌%◌, ◌<◌, Some, is_some, length, true};
 ghost use Rattle.std.specs.Borrow.{Bor, MutBor};
 ghost use Rattle.bucket_slots.specs.BucketView.{BucketView};
@@ -28,12 +26,12 @@ impl<K: Eq + Drop, V: Drop, H: KeyHash<K>, L: LruList + Drop, const TYPE: u8> Ha
     L,
     TYPE,
 > {
-    /// Calls `change` with the pair whose key is equal, its value lent for writing, and returns its
-    /// answer. `None` exactly if the map has none; `change` isn't called then.
+    /// Calls `change` with the pair with an equal key, with the value lent for writing, and returns
+    /// its result, or `None` exactly if the map has none; then `change` isn't called.
     ///
-    /// Works a unit. May take memory, and never fails.
+    /// Works a unit. May allocate, and never fails.
     ///
-    /// O(unit). Own.
+    /// O(unit).
     #[inline(always)]
     pub fn update<R, F: FnOnce(&K, &mut V) -> R>(&mut self, key: &K, change: F) -> Option<R>
         requires callable { (own : Bor K) (value : MutBor V)
@@ -49,13 +47,13 @@ impl<K: Eq + Drop, V: Drop, H: KeyHash<K>, L: LruList + Drop, const TYPE: u8> Ha
         self.update_by(hash, &mut EqProbe::new(key), change)
     }
 
-    /// Calls `change` with the first pair that a probe wants, its value lent for writing, and
-    /// returns its answer. `None` exactly if the map has none; `change` isn't called then. The
-    /// probe wants keys of this hash alone.
+    /// Calls `change` with the first pair that matches a probe, with the value lent for writing,
+    /// and returns its result, or `None` exactly if the map has none; then `change` isn't called.
+    /// The probe must match only keys of this hash.
     ///
-    /// Works a unit. May take memory, and never fails.
+    /// Works a unit. May allocate, and never fails.
     ///
-    /// O(unit). Own.
+    /// O(unit).
     #[inline(always)]
     pub fn update_by<R, F: FnOnce(&K, &mut V) -> R, P: KeyProbe<K>>(
         &mut self,
@@ -85,17 +83,17 @@ impl<K: Eq + Drop, V: Drop, H: KeyHash<K>, L: LruList + Drop, const TYPE: u8> Ha
         }
     }
 
-    /// Inserts a pair, or writes its value beside the equal key, which stays, and returns the
-    /// earlier value. The table may grow, by the rule `rule`.
+    /// Inserts a pair. If the map has an equal key, the key stays, the value is replaced, and the
+    /// previous value is returned. The table may grow, by the rule `rule`.
     ///
     /// Never fails if the key is in the map.
     ///
     /// # Errors
     ///
-    /// Allocation failed, and the key is absent: the pair is returned. This can't happen if the
+    /// The key is absent and allocation failed: the pair is returned. This can't happen if the
     /// bucket that is found has a free slot.
     ///
-    /// O(unit; buckets that a resize makes). Own.
+    /// O(unit; buckets that a resize makes).
     #[inline(always)]
     pub fn upsert<G: Generation>(
         &mut self,

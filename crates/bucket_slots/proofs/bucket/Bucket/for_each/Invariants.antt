@@ -2,7 +2,7 @@ use Rattle.bucket_slots.proofs.Words.{always_mut, length, pairs_ahead, pairs_in}
 use Rattle.bucket_slots.proofs.CallingEach.{IsAmid}
 use Rattle.bucket_slots.proofs.bucket.Bucket.for_each.Given as goal
 
--- the function can be called again, and was called with each pair that is no more ahead
+-- the function can be called again, and was called with each pair that is no longer ahead
 abbrev pub invariant-pairs : goal.invariant-pairs
 invariant-pairs g l =
     (always_mut g.F.FnMut l.fn.f → always_mut g.F.FnMut l.f)

@@ -2,7 +2,7 @@ use Rattle.bucket_table.proofs.Words.{ArePlaced, KeepsArrays, WorksUnits, [], le
 use Rattle.bucket_table.specs.Rehash.Finishing.{units_left}
 use Rattle.bucket_table.proofs.arrays.Arrays.finish_rehash.Given as goal
 
--- the units worked so far and those that are left are those at entry
+-- the units worked so far and the remaining ones are those at entry
 abbrev pub invariant-loop-success : goal.invariant-loop-success
 invariant-loop-success g l = ArePlaced (g.H.KeyHash.hash_of l.hasher) l.self × KeepsArrays l.fn.self l.self ×
     (l.self.tickets.open_units ≡ [])

@@ -35,7 +35,7 @@ loop-bucket-smaller g c =
     let row = ap (λ t. length (row_of t.arrays)) c.self-in-loop-bucket.view_is in
     omega (arith, row, c.in-Some.ensures.bucket.0, c.loop-bucket.invariant.2.left.len, (loop-bucket-preserved g c).2.left.len)
 
--- the whole row was gone through
+-- the whole row is done
 all_retained : (g : given.Over) (c : goal.In_default g) → IsRetained
     (λ state own before answer after last. given.F-step g state own before answer after last)
     g.row.TYPE (g.G.Generation.epoch_of c.args.generation.now) c.args.keep.now c.args.self.now.arrays c.loop-bucket.self.arrays

@@ -4,7 +4,7 @@ use Rattle.bucket_table.specs.Walking.Row.{row_of}
 use Rattle.bucket_table.proofs.Walking.RetainingTable.{IsThrough}
 use Rattle.bucket_table.proofs.hash_table.HashTable.retain.Given as goal
 
--- the closure can be called again, and was asked for the pairs of each bucket below the index
+-- the closure can be called again, and was called with the pairs of each bucket below the index
 abbrev pub invariant-loop-bucket : goal.invariant-loop-bucket
 invariant-loop-bucket g l =
     always_mut g.F.FnMut l.keep

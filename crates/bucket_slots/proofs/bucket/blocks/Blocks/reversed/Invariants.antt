@@ -1,7 +1,7 @@
 use Rattle.bucket_slots.proofs.Words.{length, reverse, reverse_aux, ◌≡◌}
 use Rattle.bucket_slots.proofs.bucket.blocks.Blocks.reversed.Given as goal
 
--- what is turned already stands behind the rest, turned
+-- the rest, reversed, and then what is reversed already
 abbrev pub invariant-loop-block : goal.invariant-loop-block
 invariant-loop-block g l = reverse_aux l.self l.turned ≡ reverse l.fn.self
 

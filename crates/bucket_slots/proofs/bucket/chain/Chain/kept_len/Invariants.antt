@@ -1,7 +1,7 @@
 use Rattle.bucket_slots.proofs.Words.{all_free, drop, length, suffix_len, take, ◌+◌, ◌-◌, ◌≡◌}
 use Rattle.bucket_slots.proofs.bucket.chain.Chain.kept_len.Given as goal
 
--- of the blocks that were passed so many would be kept
+-- the number of the passed blocks that would be kept
 abbrev pub invariant-loop-at : goal.invariant-loop-at
 invariant-loop-at g l =
     let rows = l.self in record {

@@ -2,7 +2,7 @@ use Rattle.bucket_slots.proofs.Words.{always_mut}
 use Rattle.bucket_slots.proofs.AskingSlots.{IsAsking}
 use Rattle.bucket_slots.proofs.bucket.row.Row.retain.Given as goal
 
--- the function can be called again, and was asked for each pair whose bit is gone
+-- the function can be called again, and was called with each pair whose bit is cleared
 abbrev pub invariant-loop-left : goal.invariant-loop-left
 invariant-loop-left g l =
     (always_mut g.F.FnMut l.fn.keep → always_mut g.F.FnMut l.keep)

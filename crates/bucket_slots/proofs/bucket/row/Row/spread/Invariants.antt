@@ -3,7 +3,7 @@ use Rattle.bucket_slots.specs.Spreading.{IsShifted}
 use Rattle.bucket_slots.proofs.OwnSpreading.{IsSpreading}
 use Rattle.bucket_slots.proofs.bucket.row.Row.spread.Given as goal
 
--- some pairs have moved, and the tail is the list's own
+-- some pairs have moved, and the tail belongs to the list
 abbrev pub invariant-loop-left : goal.invariant-loop-left
 invariant-loop-left g l =
     IsSpreading g.row.TYPE (λ key answer. goal.F-post g l.hash_of key answer) (IsShifted l.shift) l.start g.row.LEN l.fn.self

@@ -5,7 +5,7 @@ use Rattle.bucket_table.specs.Walking.Row.{pairs_from, row_of}
 use Rattle.bucket_table.proofs.Walking.Extracting.{IsExtracting}
 use Rattle.bucket_table.proofs.arrays.extracting.TableExtract.extract_next.Given as goal
 
--- the closure can be called again, and refused the pairs that are no more left; no more are left than the bound
+-- the closure can be called again, and didn't pick the pairs that are no longer left; no more are left than the bound
 abbrev pub invariant-slots : goal.invariant-slots
 invariant-slots g l =
     always_mut g.F.FnMut l.pick

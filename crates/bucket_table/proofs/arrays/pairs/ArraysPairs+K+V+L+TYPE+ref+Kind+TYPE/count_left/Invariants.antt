@@ -1,4 +1,4 @@
--- The pairs that were counted, and those that are left, are all.
+-- The pairs that were counted and the remaining ones are all.
 use Rattle.std.specs.Prelude.{ℕ, ◌≡◌, ◌+◌, ◌-◌, ◌^◌, length, min}
 use Rattle.bucket_table.proofs.arrays.pairs.ArraysPairs+K+V+L+TYPE+ref+Kind+TYPE.count_left.Given as goal
 
