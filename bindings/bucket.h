@@ -1,4 +1,4 @@
-/* Hash maps, sets, a store and caches for C and C++, proved to do what is said here. Link libbucket.a, or libbucket.so.
+/* Hash maps, sets, a store and caches for C and C++, proved to behave as documented here. Link libbucket.a or libbucket.so.
  *
  *     bucket_handle ages = BUCKET_HANDLE;
  *     uint64_t age;
@@ -7,21 +7,22 @@
  *     if (bucket_map_get(&ages, 7, &age) == BUCKET_OK) printf("%" PRIu64 "\n", age);
  *     bucket_free(&ages);
  *
- * What C owes, at each call:
- *   - a pointer to bytes, pairs or rows points to as many as the length or room beside it, and may be null where that is 0; no
- *     other pointer is null;
+ * The caller has to ensure at each call:
+ *   - a pointer to bytes, pairs or rows points to as many of them as the length or room passed with it says, and may be null if that
+ *     is 0; no other pointer is null;
  *   - buffers, outputs and the handle don't overlap;
- *   - a handle begins as BUCKET_HANDLE, and C neither reads nor writes its fields, nor uses a copy beside the original;
- *   - one call at a time on a handle, also of those that take it by `const`, in any thread: a lock, or a thread's start or join,
+ *   - a handle is initialized with BUCKET_HANDLE; the caller neither reads nor writes its fields, nor uses a copy beside the original;
+ *   - one call at a time on a handle in all threads, including the calls that take it by `const`: a lock, or a thread's start or join,
  *     orders the calls of two threads;
  *   - no call in a signal handler, or in the forked child of a process with threads;
- *   - `malloc` and `free` are of one allocator, whose blocks are aligned to 16, or to each lesser power of two that divides their size.
- * Else a call has no other condition: whatever was called before, it answers by a code.
+ *   - `malloc` and `free` belong to one allocator, whose blocks are aligned to 16, or to each smaller power of two that divides their
+ *     size.
+ * A call has no other precondition: whatever was called before, it returns a code.
  *
- * A call that fails changes no pair and no key. What a call writes out by a pointer is left as it was, unless its line says otherwise.
- * Costs are expected ones, where n is the number of slots, some 1.2 to 8 a pair; a call that changes the collection may also
- * move 64 old buckets of a resize. Keys that an enemy chooses need a random seed: by the fixed one such keys can be made to meet
- * in one bucket, and a call then takes as long as there are pairs. */
+ * A call that fails changes no pair and no key. An output keeps its value, unless the call's comment says that it is written.
+ * Costs are expected costs, where n is the number of slots, about 1.2 to 8 per pair; a call that changes the collection may also
+ * move 64 old buckets of a resize. If an attacker chooses the keys, use a random seed: with the fixed one an attacker can force
+ * collisions in one bucket, and a call then takes time proportional to the number of pairs. */
 #ifndef BUCKET_H
 #define BUCKET_H
 
@@ -29,7 +30,7 @@
 #include <stddef.h>
 #include <stdint.h>
 
-/* The library is one for 64 bits. */
+/* The library needs a 64-bit platform. */
 #if defined(__cplusplus) && __cplusplus >= 201103L
 static_assert(sizeof(size_t) == 8, "size_t has 64 bits");
 #elif defined(__STDC_VERSION__) && __STDC_VERSION__ >= 201112L
@@ -38,10 +39,10 @@ _Static_assert(sizeof(size_t) == 8, "size_t has 64 bits");
 typedef char bucket_size_t_has_64_bits[sizeof(size_t) == 8 ? 1 : -1];
 #endif
 
-/* Behind that, since a compiler that has it for 64 bits alone ends here. */
+/* Included after the check above, so that a compiler that has this header for 64 bits only stops there. */
 #include <stdlib.h>
 
-/* A code that a caller drops warns; before C23 and C++17, gcc also warns of a cast to void. */
+/* Dropping a code causes a warning; before C23 and C++17, gcc also warns about a cast to void. */
 #if defined(__cplusplus) ? __cplusplus >= 201703L : defined(__STDC_VERSION__) && __STDC_VERSION__ >= 202000L
 #define BUCKET_MUST_USE [[nodiscard]]
 #elif defined(__GNUC__)
@@ -67,20 +68,20 @@ extern "C" {
 #define BUCKET_VERSION_PATCH 0
 #define BUCKET_VERSION (BUCKET_VERSION_MAJOR * 65536 + BUCKET_VERSION_MINOR * 256 + BUCKET_VERSION_PATCH)
 
-/* BUCKET_VERSION of the library that is linked. */
+/* The BUCKET_VERSION of the linked library. */
 uint32_t bucket_version(void);
 
-/* What a call answers. */
+/* The codes that calls return. */
 enum bucket_code {
     BUCKET_OK = 0,
     BUCKET_ABSENT = 1,     /* the key is absent */
-    BUCKET_PRESENT = 2,    /* the key is there: not inserted; of an upsert or an addition: its value is another one now */
-    BUCKET_NO_MEMORY = 3,  /* allocation failed; all pairs stay */
+    BUCKET_PRESENT = 2,    /* the key is present: not inserted; after an upsert or an addition: its value was replaced */
+    BUCKET_NO_MEMORY = 3,  /* allocation failed; no pair has changed */
     BUCKET_CLOSED = 4,     /* the handle is closed */
-    BUCKET_OPEN = 5,       /* a `new` of a handle that is open */
+    BUCKET_OPEN = 5,       /* `new` was called on an open handle */
     BUCKET_OTHER_KIND = 6, /* the handle holds a collection of another kind */
-    BUCKET_EVICTED = 7,    /* of a cache: done, and another pair went for this one */
-    BUCKET_TOO_LONG = 8    /* of a store: the value is longer than the room; its front is written out */
+    BUCKET_EVICTED = 7,    /* cache only: done, and another pair was evicted */
+    BUCKET_TOO_LONG = 8    /* store only: the value is longer than the room; its first bytes are written */
 };
 
 typedef struct bucket_handle {
@@ -95,11 +96,12 @@ typedef struct bucket_handle {
 #define BUCKET_HANDLE {NULL, false}
 #endif
 
-/* 16 bytes, best from getrandom(): keys are hashed by SipHash-1-3 with these two. If both are 0: by a faster hash without a key.
+/* 16 bytes, best from getrandom(): the two keys of SipHash-1-3, by which the collection's keys are hashed. If both are 0, a faster
+ * hash without a key is used.
  *
- * Pairs are read in the order of their hashes. Before they are inserted so into a collection of the
- * same seed, bucket_reserve for all: else that takes O(n * n). Or give it another seed, as a cache
- * needs, which evicts most of them else. */
+ * Pairs are read in the order of their hashes. Before inserting them in that order into a collection with the same seed, call
+ * bucket_reserve for all of them; otherwise that takes O(n * n). Or give the collection another seed. A cache needs another seed,
+ * since otherwise it evicts most of them. */
 typedef struct bucket_seed {
     uint64_t key0;
     uint64_t key1;
@@ -118,46 +120,48 @@ typedef struct bucket_pair {
 
 typedef struct bucket_text_pair {
     size_t len; /* of the key */
-    uint64_t value; /* 0 of a set, and of a store the value's length */
+    uint64_t value; /* 0 for a set; for a store the value's length */
 } bucket_text_pair;
 
-/* ---- Of each kind ---- */
+/* ---- Calls for each kind ---- */
 
-/* Frees what the handle holds, and closes it; a closed one stays closed. O(n). bucket_free_values, at the end of this header, also hands
- * each value to a function. */
+/* Frees what the handle holds, and closes it; a closed handle stays closed. O(n). bucket_free_values, at the end of this header, first
+ * passes each value to a function. */
 void bucket_free(bucket_handle *handle);
 
-/* How many pairs or keys; 0 if closed. O(n / 32). */
+/* Returns the number of pairs or keys; 0 if closed. O(n / 32). */
 size_t bucket_len(const bucket_handle *handle);
 
-/* How many slots the current array has; 0 if closed. O(1). */
+/* Returns the number of slots of the current array; 0 if closed. O(1). */
 size_t bucket_capacity(const bucket_handle *handle);
 
 /* Drops all pairs and slots; the seed and the capacity stay. OK, CLOSED. O(n). */
 BUCKET_MUST_USE uint32_t bucket_clear(bucket_handle *handle);
 
-/* Makes room for so many more pairs. OK; NO_MEMORY, also if no array has so many slots. CLOSED, OTHER_KIND: a cache has the capacity
- * that it was made with. O(n). */
+/* Makes room for `additional` more pairs. OK; NO_MEMORY, also if no array can have so many slots. CLOSED; OTHER_KIND: a cache, whose
+ * capacity is fixed when it is made. O(n). */
 BUCKET_MUST_USE uint32_t bucket_reserve(bucket_handle *handle, size_t additional);
 
-/* Leaves as few slots as the pairs take. OK; NO_MEMORY, unless there is no pair or they are as few already. CLOSED, OTHER_KIND. O(n). */
+/* Leaves as few slots as the pairs need. OK; NO_MEMORY, unless there is no pair or the slots are as few already. CLOSED, OTHER_KIND.
+ * O(n). */
 BUCKET_MUST_USE uint32_t bucket_shrink(bucket_handle *handle);
 
-/* Copies the pairs of one bucket to `out`, those after its first `start`, as many as there is room for, and `count` is how many. The
- * buckets have the numbers from 0 on; one after the other they have each pair once, as long as no call changes the collection
- * (bucket_cache_get does). A key or a value that is a byte string is told as 0, and a set's values are 0. OK; ABSENT: past the last
- * bucket, `count` is 0. CLOSED. O(pairs of the bucket). */
+/* Copies pairs of one bucket to `out`, skipping the first `start`, as many as there is room for, and stores their number in `count`.
+ * Buckets are numbered from 0; together they have each pair once, as long as no call changes the collection (bucket_cache_get does). A
+ * key or a value that is a byte string is encoded as 0, and a set's values are 0. OK; ABSENT: past the last bucket, `count` is 0.
+ * CLOSED. O(pairs of the bucket). */
 BUCKET_MUST_USE uint32_t bucket_pairs_in(const bucket_handle *handle, size_t bucket, size_t start, bucket_pair *out, size_t room,
                                          size_t *count);
 
-/* The same of byte strings: `rows` gets the length of each key and its value, 0 of a set and the value's length of a store, and `bytes`
- * the keys' bytes, one after another: as many pairs as fit in both. OK; ABSENT: past the last bucket, `count` is 0. CLOSED,
- * OTHER_KIND: its keys are words. O(pairs of the bucket). */
+/* The same for byte strings: `rows` gets the length of each key and its value (0 for a set, the value's length for a store), and
+ * `bytes` gets the keys' bytes, one after another: as many pairs as fit in both. OK; ABSENT: past the last bucket, `count` is 0.
+ * CLOSED; OTHER_KIND: the keys are words. O(pairs of the bucket). */
 BUCKET_MUST_USE uint32_t bucket_texts_in(const bucket_handle *handle, size_t bucket, size_t start, bucket_text_pair *rows, size_t room,
                                          uint8_t *bytes, size_t bytes_room, size_t *count);
 
-/* A place in all pairs, to go on reading from: bucket_read, bucket_values and bucket_read_texts, at the end of this header, move it. It
- * begins as BUCKET_START, and means nothing once a call has changed the collection; to use it then does no harm. */
+/* A position among all pairs, from which reading continues: bucket_read, bucket_values and bucket_read_texts, at the end of this
+ * header, advance it. It is initialized with BUCKET_START, and is meaningless once a call has changed the collection; using it then is
+ * safe. */
 typedef struct bucket_place {
     size_t bucket;
     size_t pair;
@@ -165,53 +169,53 @@ typedef struct bucket_place {
 
 #define BUCKET_START {0, 0}
 
-/* Copies pairs of a map or a cache to `out`, as many as there is room for, and `count` is how many: those after the first `start`,
- * in an order that stays until a call changes the collection (bucket_cache_get does). So a loop that adds each count to `start`
- * gets each pair once. OK, CLOSED, OTHER_KIND: a set, also one of words, or its keys are texts. O(n). */
+/* Copies pairs of a map or a cache to `out`, skipping the first `start`, as many as there is room for, and stores their number in
+ * `count`. The order stays until a call changes the collection (bucket_cache_get does), so a loop that adds each count to `start` gets
+ * each pair once. OK, CLOSED; OTHER_KIND: a set, also one of words, or the keys are byte strings. O(n). */
 BUCKET_MUST_USE uint32_t bucket_pairs(const bucket_handle *handle, size_t start, bucket_pair *out, size_t room, size_t *count);
 
-/* The same of a text map, a text cache or a text set, whose values are 0. `rows` gets each key's length and its value, and `bytes`
- * the keys' bytes, one after another: as many pairs as fit in both. A `count` of 0 before the end: the next key is longer than
+/* The same for a text map, a text cache or a text set, whose values are 0. `rows` gets each key's length and its value, and `bytes`
+ * gets the keys' bytes, one after another: as many pairs as fit in both. If `count` is 0 before the end, the next key is longer than
  * `bytes`. OK, CLOSED, OTHER_KIND. O(n). */
 BUCKET_MUST_USE uint32_t bucket_texts(const bucket_handle *handle, size_t start, bucket_text_pair *rows, size_t room,
                                       uint8_t *bytes, size_t bytes_room, size_t *count);
 
 /* ---- A map from uint64_t to uint64_t ---- */
 
-/* Opens a closed handle on an empty map, whose first array has room for so many pairs. OK, NO_MEMORY, OPEN. O(1). */
+/* Opens a closed handle on an empty map, whose first array has room for `capacity` pairs. OK, NO_MEMORY, OPEN. O(1). */
 BUCKET_MUST_USE uint32_t bucket_map_new(bucket_handle *handle, size_t capacity, bucket_seed seed);
 
-/* The answers of all calls below: also CLOSED and OTHER_KIND. All O(1). */
+/* All calls below also return CLOSED and OTHER_KIND. All are O(1). */
 
-/* Inserts a pair. OK, PRESENT; NO_MEMORY, only if there is no array, it shrinks, or the key's bucket is the home of 32 pairs, or its
- * bucket of an old array of 33. */
+/* Inserts a pair. OK, PRESENT; NO_MEMORY only if there is no array, the array shrinks, the key's bucket is the home of 32 pairs, or
+ * its bucket in an old array is the home of 33. */
 BUCKET_MUST_USE uint32_t bucket_map_insert(bucket_handle *handle, uint64_t key, uint64_t value);
 
-/* Inserts a pair: OK; or writes the value over an earlier one, which is written out: PRESENT. NO_MEMORY as of insert: the key is
+/* Inserts a pair: OK; or replaces the earlier value, which is written to `earlier`: PRESENT. NO_MEMORY as for insert: the key is
  * absent. */
 BUCKET_MUST_USE uint32_t bucket_map_upsert(bucket_handle *handle, uint64_t key, uint64_t value, uint64_t *earlier);
 
-/* Writes the value out. OK, ABSENT. */
+/* Writes the value to `value`. OK, ABSENT. */
 BUCKET_MUST_USE uint32_t bucket_map_get(const bucket_handle *handle, uint64_t key, uint64_t *value);
 
-/* OK, ABSENT. */
+/* Tests whether the key is present. OK, ABSENT. */
 BUCKET_MUST_USE uint32_t bucket_map_contains(const bucket_handle *handle, uint64_t key);
 
-/* Removes a pair, and writes its value out. OK, ABSENT. bucket_map_remove_if, at the end of this header, removes many. */
+/* Removes a pair, and writes its value to `value`. OK, ABSENT. bucket_map_remove_if, at the end of this header, removes many. */
 BUCKET_MUST_USE uint32_t bucket_map_remove(bucket_handle *handle, uint64_t key, uint64_t *value);
 
-/* Adds to a value, modulo 2^64: PRESENT; or inserts `amount`: OK. Either way `total` gets the sum. NO_MEMORY as of insert: the key is
- * absent. */
+/* Adds `amount` to a value, modulo 2^64: PRESENT; or inserts `amount`: OK. Either way `total` gets the sum. NO_MEMORY as for insert:
+ * the key is absent. */
 BUCKET_MUST_USE uint32_t bucket_map_add(bucket_handle *handle, uint64_t key, uint64_t amount, uint64_t *total);
 
-/* Inserts a pair: OK; or PRESENT: nothing changes. Either way `held` gets the value that is there now. NO_MEMORY as of insert. */
+/* Inserts a pair: OK; or PRESENT: nothing changes. Either way `held` gets the value now under the key. NO_MEMORY as for insert. */
 BUCKET_MUST_USE uint32_t bucket_map_get_or_insert(bucket_handle *handle, uint64_t key, uint64_t value, uint64_t *held);
 
-/* Removes a pair if it has this value: OK. PRESENT: it has another one, which `held` gets, and stays. ABSENT. */
+/* Removes a pair if it has the value `value`: OK. PRESENT: it has another one, which is written to `held`, and stays. ABSENT. */
 BUCKET_MUST_USE uint32_t bucket_map_remove_if_equal(bucket_handle *handle, uint64_t key, uint64_t value, uint64_t *held);
 
-/* ---- A map from byte strings to uint64_t: the same. The map keeps copies of its keys. insert, upsert, add and get_or_insert copy a
- * key that is absent, and may answer NO_MEMORY for that; for one that is there they never do. No other call copies it. ---- */
+/* ---- A map from byte strings to uint64_t: the same calls. The map keeps copies of its keys. insert, upsert, add and get_or_insert
+ * copy a key that is absent, and may return NO_MEMORY then; for a key that is present they never do. No other call copies a key. ---- */
 
 BUCKET_MUST_USE uint32_t bucket_text_map_new(bucket_handle *handle, size_t capacity, bucket_seed seed);
 BUCKET_MUST_USE uint32_t bucket_text_map_insert(bucket_handle *handle, const uint8_t *key, size_t len, uint64_t value);
@@ -227,7 +231,7 @@ BUCKET_MUST_USE uint32_t bucket_text_map_get_or_insert(bucket_handle *handle, co
 BUCKET_MUST_USE uint32_t bucket_text_map_remove_if_equal(bucket_handle *handle, const uint8_t *key, size_t len, uint64_t value,
                                                          uint64_t *held);
 
-/* ---- A set of uint64_t, and one of byte strings: the same as maps, without values ---- */
+/* ---- A set of uint64_t, and one of byte strings: like maps, without values ---- */
 
 BUCKET_MUST_USE uint32_t bucket_set_new(bucket_handle *handle, bucket_seed seed);
 BUCKET_MUST_USE uint32_t bucket_set_insert(bucket_handle *handle, uint64_t key);
@@ -239,60 +243,61 @@ BUCKET_MUST_USE uint32_t bucket_text_set_insert(bucket_handle *handle, const uin
 BUCKET_MUST_USE uint32_t bucket_text_set_contains(const bucket_handle *handle, const uint8_t *key, size_t len);
 BUCKET_MUST_USE uint32_t bucket_text_set_remove(bucket_handle *handle, const uint8_t *key, size_t len);
 
-/* ---- A store: a map from byte strings to byte strings. It keeps copies of both. All calls also take the time to read or to copy
- * the bytes. ---- */
+/* ---- A store: a map from byte strings to byte strings. It keeps copies of both. All calls also take the time to read or copy the
+ * bytes. ---- */
 
-/* As bucket_map_new. OK, NO_MEMORY, OPEN. O(1). */
+/* Like bucket_map_new. OK, NO_MEMORY, OPEN. O(1). */
 BUCKET_MUST_USE uint32_t bucket_store_new(bucket_handle *handle, size_t capacity, bucket_seed seed);
 
-/* Inserts a pair. OK; PRESENT: nothing changes. NO_MEMORY, for the copies or as of a map: the key is absent. */
+/* Inserts a pair. OK; PRESENT: nothing changes. NO_MEMORY for the copies or as for a map: the key is absent. */
 BUCKET_MUST_USE uint32_t bucket_store_insert(bucket_handle *handle, const uint8_t *key, size_t len, const uint8_t *value,
                                              size_t value_len);
 
-/* Inserts a pair: OK; or puts the value in the place of an earlier one: PRESENT. NO_MEMORY as of insert, or for a copy of the value:
- * all stays. */
+/* Inserts a pair: OK; or replaces the earlier value: PRESENT. NO_MEMORY as for insert, or for a copy of the value: nothing changes. */
 BUCKET_MUST_USE uint32_t bucket_store_upsert(bucket_handle *handle, const uint8_t *key, size_t len, const uint8_t *value,
                                              size_t value_len);
 
-/* Writes the value out, and its length to `value_len`: OK; or TOO_LONG: its first `room` bytes, and its whole length. ABSENT. */
+/* Writes the value to `out`, and its length to `value_len`: OK; or TOO_LONG: its first `room` bytes, and its whole length. ABSENT. */
 BUCKET_MUST_USE uint32_t bucket_store_get(const bucket_handle *handle, const uint8_t *key, size_t len, uint8_t *out, size_t room,
                                           size_t *value_len);
 
-/* OK, ABSENT. */
+/* Tests whether the key is present. OK, ABSENT. */
 BUCKET_MUST_USE uint32_t bucket_store_contains(const bucket_handle *handle, const uint8_t *key, size_t len);
 
 /* Removes a pair. OK, ABSENT. */
 BUCKET_MUST_USE uint32_t bucket_store_remove(bucket_handle *handle, const uint8_t *key, size_t len);
 
-/* ---- A cache from uint64_t to uint64_t. Where a key's bucket is full, the pair of it that was touched longest ago goes. ---- */
+/* ---- A cache from uint64_t to uint64_t. If a key's bucket is full, the pair of that bucket that was touched longest ago is evicted.
+ * ---- */
 
-/* At least `minimum` slots, or 2^63, and at most the least power of two that is at least `maximum`, `minimum` and 64, or 2^63. OK,
- * NO_MEMORY, OPEN. */
+/* Opens a closed handle on an empty cache with at least `minimum` slots, and at most the least power of two that is at least
+ * `maximum`, `minimum` and 64; both are limited to 2^63. OK, NO_MEMORY, OPEN. */
 BUCKET_MUST_USE uint32_t bucket_cache_new(bucket_handle *handle, size_t minimum, size_t maximum, bucket_seed seed);
 
-/* Puts a pair: OK; or EVICTED: another went for it, and is written out. PRESENT, NO_MEMORY as of a map: it isn't put. */
+/* Inserts a pair: OK; or EVICTED: another pair was evicted, and is written to the outputs. PRESENT, NO_MEMORY as for a map: it isn't
+ * inserted. */
 BUCKET_MUST_USE uint32_t bucket_cache_put(bucket_handle *handle, uint64_t key, uint64_t value, uint64_t *gone_key,
                                           uint64_t *gone_value);
 
-/* The same; or PRESENT: it writes the value over an earlier one, which is written out to `before`, and touches the pair. */
+/* The same; or PRESENT: it replaces the earlier value, which is written to `before`, and touches the pair. */
 BUCKET_MUST_USE uint32_t bucket_cache_upsert(bucket_handle *handle, uint64_t key, uint64_t value, uint64_t *gone_key,
                                              uint64_t *before);
 
-/* Writes the value out, and touches the pair. OK, ABSENT. */
+/* Writes the value to `value`, and touches the pair. OK, ABSENT. */
 BUCKET_MUST_USE uint32_t bucket_cache_get(bucket_handle *handle, uint64_t key, uint64_t *value);
 
-/* Writes the value out. OK, ABSENT. */
+/* Writes the value to `value`. OK, ABSENT. */
 BUCKET_MUST_USE uint32_t bucket_cache_peek(const bucket_handle *handle, uint64_t key, uint64_t *value);
 
-/* OK, ABSENT. */
+/* Tests whether the key is present. OK, ABSENT. */
 BUCKET_MUST_USE uint32_t bucket_cache_contains(const bucket_handle *handle, uint64_t key);
 
-/* Removes a pair, and writes its value out. OK, ABSENT. */
+/* Removes a pair, and writes its value to `value`. OK, ABSENT. */
 BUCKET_MUST_USE uint32_t bucket_cache_remove(bucket_handle *handle, uint64_t key, uint64_t *value);
 
-/* ---- A cache from byte strings to uint64_t: the same. put and upsert copy a key that is absent, and may answer NO_MEMORY for that;
- * for one that is there they never do. No other call copies it. Of a key that goes, `gone_len` is the length, and `gone` gets as
- * many bytes as it has room for. ---- */
+/* ---- A cache from byte strings to uint64_t: the same calls. put and upsert copy a key that is absent, and may return NO_MEMORY then;
+ * for a key that is present they never do. No other call copies a key. If a key is evicted, `gone_len` gets its length, and `gone` as
+ * many of its bytes as it has room for. ---- */
 
 BUCKET_MUST_USE uint32_t bucket_text_cache_new(bucket_handle *handle, size_t minimum, size_t maximum, bucket_seed seed);
 BUCKET_MUST_USE uint32_t bucket_text_cache_put(bucket_handle *handle, const uint8_t *key, size_t len, uint64_t value,
@@ -305,8 +310,8 @@ BUCKET_MUST_USE uint32_t bucket_text_cache_contains(const bucket_handle *handle,
 BUCKET_MUST_USE uint32_t bucket_text_cache_remove(bucket_handle *handle, const uint8_t *key, size_t len, uint64_t *value);
 
 /* ---- Null pointers ----
- * The library takes no null pointer. So the names of the calls that take a length stand for the functions below, which hand
- * another pointer on where the length is 0. */
+ * The library accepts no null pointer. So the names of the calls that take a length are macros for the functions below, which pass on
+ * another pointer if the length is 0. */
 
 BUCKET_INLINE const uint8_t *bucket_guarded_key(const uint8_t *key, size_t len) {
     static const uint8_t none = 0;
@@ -481,9 +486,9 @@ BUCKET_MUST_USE BUCKET_INLINE uint32_t bucket_guarded_text_cache_remove(bucket_h
 
 /* ---- Readings of all pairs ---- */
 
-/* bucket_read(handle, place, out, room, count) copies pairs from a place on, as bucket_pairs_in does of one bucket, as many as there is
- * room for, moves the place behind them, and `count` is how many. OK; ABSENT: none is left, `count` is 0. CLOSED, OTHER_KIND. One call
- * O(its pairs, and the empty buckets between them), all of a reading O(n). */
+/* bucket_read(handle, place, out, room, count) copies pairs from a place on, as bucket_pairs_in does for one bucket, as many as there
+ * is room for, advances the place past them, and stores their number in `count`. OK; ABSENT: none is left, `count` is 0. CLOSED,
+ * OTHER_KIND. One call takes O(its pairs, plus the empty buckets between them), reading all pairs O(n). */
 BUCKET_MUST_USE BUCKET_INLINE uint32_t bucket_guarded_read(const bucket_handle *handle, bucket_place *place, bucket_pair *out,
                                                            size_t room, size_t *count) {
     size_t read = 0;
@@ -512,7 +517,7 @@ BUCKET_MUST_USE BUCKET_INLINE uint32_t bucket_guarded_read(const bucket_handle *
 }
 #define bucket_read bucket_guarded_read
 
-/* bucket_values(handle, place, out, room, count) does the same with the values alone. */
+/* bucket_values(handle, place, out, room, count) does the same for the values only. */
 BUCKET_MUST_USE BUCKET_INLINE uint32_t bucket_guarded_values(const bucket_handle *handle, bucket_place *place, uint64_t *out,
                                                              size_t room, size_t *count) {
     bucket_pair pairs[32];
@@ -544,8 +549,9 @@ BUCKET_MUST_USE BUCKET_INLINE uint32_t bucket_guarded_values(const bucket_handle
 }
 #define bucket_values bucket_guarded_values
 
-/* bucket_read_texts(handle, place, rows, room, bytes, bytes_room, count) does the same with byte strings, as bucket_texts_in does of one
- * bucket: as many pairs as fit in both buffers. A `count` of 0 with OK: the next key is longer than `bytes`, or there is no row. */
+/* bucket_read_texts(handle, place, rows, room, bytes, bytes_room, count) does the same for byte strings, as bucket_texts_in does for
+ * one bucket: as many pairs as fit in both buffers. If it returns OK and `count` is 0, the next key is longer than `bytes`, or there
+ * is no row. */
 BUCKET_MUST_USE BUCKET_INLINE uint32_t bucket_guarded_read_texts(const bucket_handle *handle, bucket_place *place,
                                                                  bucket_text_pair *rows, size_t room, uint8_t *bytes,
                                                                  size_t bytes_room, size_t *count) {
@@ -566,7 +572,7 @@ BUCKET_MUST_USE BUCKET_INLINE uint32_t bucket_guarded_read_texts(const bucket_ha
             used += rows[read].len;
         }
         place->pair += more;
-        /* What is left of the bucket doesn't fit. */
+        /* The rest of the bucket doesn't fit. */
         code = bucket_pairs_in(handle, place->bucket, place->pair, &next, 1, &left);
         if (code != BUCKET_OK || left > 0) {
             break;
@@ -584,12 +590,12 @@ BUCKET_MUST_USE BUCKET_INLINE uint32_t bucket_guarded_read_texts(const bucket_ha
 }
 #define bucket_read_texts bucket_guarded_read_texts
 
-/* What bucket_each calls: it may look up in the handle, but changes nothing in it. */
+/* The function that bucket_each calls: it may look up in the handle, but must not change it. */
 typedef void (*bucket_visit)(uint64_t key, uint64_t value, void *data);
 
-/* bucket_each(handle, visit, data) calls visit(key, value, data) once for each pair, in the order of bucket_read and with what that
- * gives: a key or a value that is a byte string is told as 0, and a set's values are 0. `data` may be null. If `visit` changes the handle
- * all the same (bucket_cache_get does), pairs may come twice or not at all. OK, CLOSED. O(n). */
+/* bucket_each(handle, visit, data) calls visit(key, value, data) once for each pair, in the order and encoding of bucket_read: a key
+ * or a value that is a byte string is encoded as 0, and a set's values are 0. `data` may be null. If `visit` changes the handle
+ * nevertheless (bucket_cache_get does), a pair may be visited twice or not at all. OK, CLOSED. O(n). */
 BUCKET_MUST_USE BUCKET_INLINE uint32_t bucket_guarded_each(const bucket_handle *handle, bucket_visit visit, void *data) {
     bucket_place place = BUCKET_START;
     bucket_pair pairs[32];
@@ -608,10 +614,10 @@ BUCKET_MUST_USE BUCKET_INLINE uint32_t bucket_guarded_each(const bucket_handle *
 }
 #define bucket_each bucket_guarded_each
 
-/* What bucket_free_values calls: it makes no call on the handle. */
+/* The function that bucket_free_values calls: it must not make any call on the handle. */
 typedef void (*bucket_destroy)(uint64_t value);
 
-/* Whether the values are words: OK; CLOSED; OTHER_KIND: a set, a store. */
+/* Tests whether the values are words: OK; CLOSED; OTHER_KIND: a set or a store. */
 BUCKET_MUST_USE BUCKET_INLINE uint32_t bucket_guarded_has_values(const bucket_handle *handle) {
     const uint8_t none = 0;
     uint32_t code = bucket_map_contains(handle, 0);
@@ -630,9 +636,9 @@ BUCKET_MUST_USE BUCKET_INLINE uint32_t bucket_guarded_has_values(const bucket_ha
     return code;
 }
 
-/* bucket_free_values(handle, destroy) calls destroy(value) once for each pair, in the order of bucket_values, and then bucket_free. OK;
- * CLOSED; OTHER_KIND: a set or a store: nothing is destroyed, and it stays open. O(n). No other call destroys a value: one that
- * bucket_map_upsert or bucket_map_remove writes out, or that a cache evicts, is the caller's. */
+/* bucket_free_values(handle, destroy) calls destroy(value) once for each pair, in the order of bucket_values, and then bucket_free.
+ * OK; CLOSED; OTHER_KIND: a set or a store: nothing is destroyed, and the handle stays open. O(n). No other call destroys a value: the
+ * caller owns a value that bucket_map_upsert or bucket_map_remove outputs, or that a cache evicts. */
 BUCKET_MUST_USE BUCKET_INLINE uint32_t bucket_guarded_free_values(bucket_handle *handle, bucket_destroy destroy) {
     bucket_place place = BUCKET_START;
     uint64_t values[32];
@@ -654,7 +660,7 @@ BUCKET_MUST_USE BUCKET_INLINE uint32_t bucket_guarded_free_values(bucket_handle 
 
 /* ---- Removals of many pairs ---- */
 
-/* Whether a pair goes: it may look up in the handle, but changes nothing in it. */
+/* Returns whether to remove a pair. It may look up in the handle, but must not change it. */
 typedef bool (*bucket_test)(uint64_t key, uint64_t value, void *data);
 
 #ifdef __cplusplus
@@ -663,11 +669,11 @@ typedef bool (*bucket_test)(uint64_t key, uint64_t value, void *data);
 #define BUCKET_BLOCK(memory) ((uint64_t *)(memory))
 #endif
 
-/* Doubles the room of a block of keys. Whether there is memory; else the block stays. */
+/* Doubles the room of a block of keys. Returns false if allocation fails: the block stays. */
 BUCKET_MUST_USE BUCKET_INLINE bool bucket_guarded_grow(uint64_t **keys, size_t *room) {
     uint64_t *block;
     if (*room >> 60 != 0) {
-        return false; /* 16 bytes a key pass 2^64 */
+        return false; /* 16 bytes per key exceed 2^64 */
     }
     block = BUCKET_BLOCK(realloc(*keys, 2 * *room * sizeof **keys));
     if (!block) {
@@ -678,8 +684,8 @@ BUCKET_MUST_USE BUCKET_INLINE bool bucket_guarded_grow(uint64_t **keys, size_t *
     return true;
 }
 
-/* Keeps the keys of the pairs that pass a test in a block, which the caller frees whatever comes back; it may be null. OK, NO_MEMORY,
- * CLOSED, OTHER_KIND. */
+/* Collects the keys of the pairs that pass a test in a block, which may be null. The caller frees it, whatever code is returned. OK,
+ * NO_MEMORY, CLOSED, OTHER_KIND. */
 BUCKET_MUST_USE BUCKET_INLINE uint32_t bucket_guarded_keys_if(const bucket_handle *handle, bucket_test test, void *data,
                                                               uint64_t **keys, size_t *kept) {
     bucket_place place = BUCKET_START;
@@ -706,7 +712,7 @@ BUCKET_MUST_USE BUCKET_INLINE uint32_t bucket_guarded_keys_if(const bucket_handl
     return code;
 }
 
-/* Of a set if `is_set`, else of a map. */
+/* Removes from a set if `is_set`, else from a map. */
 BUCKET_MUST_USE BUCKET_INLINE uint32_t bucket_guarded_remove_if(bucket_handle *handle, bool is_set, bucket_test test, void *data,
                                                                 size_t *removed) {
     uint64_t *keys;
@@ -734,19 +740,19 @@ BUCKET_MUST_USE BUCKET_INLINE uint32_t bucket_guarded_remove_if(bucket_handle *h
     return code;
 }
 
-/* bucket_map_remove_if(handle, test, data, removed) removes the pairs of a map from uint64_t to uint64_t for which
- * test(key, value, data) is true, and `removed` is how many. All pairs are tested, in the order of bucket_read, before any goes; the
- * keys of those that go are kept in a block of 8 to 16 bytes a key, at least 512. OK; NO_MEMORY: there is none for the block, and all
- * pairs stay. Once all keys are in the block all of them go, since no removal answers NO_MEMORY. `test` frees nothing that a pair
- * names, since the pair may stay after a yes; if it changes the handle all the same, others may go, or fewer. CLOSED, OTHER_KIND.
- * O(n). */
+/* bucket_map_remove_if(handle, test, data, removed) removes the pairs of a map from uint64_t to uint64_t for which test(key, value,
+ * data) is true, and stores their number in `removed`. All pairs are tested, in the order of bucket_read, before any is removed; the
+ * keys to remove are kept in a block of 8 to 16 bytes per key, at least 512 bytes. OK; NO_MEMORY: the block can't be allocated, and
+ * all pairs stay. Once all keys are in the block, all of them are removed, since no removal returns NO_MEMORY. `test` must not free
+ * anything that a pair refers to, since the pair may stay although `test` returned true; if `test` changes the handle nevertheless,
+ * other pairs may be removed, or fewer. CLOSED, OTHER_KIND. O(n). */
 BUCKET_MUST_USE BUCKET_INLINE uint32_t bucket_guarded_map_remove_if(bucket_handle *handle, bucket_test test, void *data,
                                                                     size_t *removed) {
     return bucket_guarded_remove_if(handle, false, test, data, removed);
 }
 #define bucket_map_remove_if bucket_guarded_map_remove_if
 
-/* bucket_set_remove_if(handle, test, data, removed) does the same with the keys of a set of uint64_t. The value of each is 0. */
+/* bucket_set_remove_if(handle, test, data, removed) does the same for the keys of a set of uint64_t. The value of each is 0. */
 BUCKET_MUST_USE BUCKET_INLINE uint32_t bucket_guarded_set_remove_if(bucket_handle *handle, bucket_test test, void *data,
                                                                     size_t *removed) {
     return bucket_guarded_remove_if(handle, true, test, data, removed);

@@ -5,21 +5,21 @@
 ///     if (auto *found = lines.find("ann")) std::cout << found->size() << '\n';
 ///     for (auto &[word, numbers] : lines) std::cout << word << '\n';
 ///
-/// Link libbucket.a, or libbucket.so. K is an integral type or an enum of at most 64 bits, or std::string; V is any object type.
+/// Link libbucket.a or libbucket.so. K is an integral type or an enum of at most 64 bits, or std::string; V is any object type.
 ///
-///   - A container is moved, never copied: clone() copies. One that was moved from is empty, and usable.
-///   - A pair stays where it is until it is erased: pointers and references to it stay good through all other calls. Iterators don't:
-///     a call that inserts or erases ends them, and so does a move or swap of the container.
-///   - If allocation fails, the call throws std::bad_alloc, and a `try_` call returns it in its result instead. Nothing has changed
+///   - A container can be moved, but not copied: clone() makes a copy. A container that was moved from is empty, and usable.
+///   - A pair stays at its address until it is erased: pointers and references to it remain valid through all other calls. Iterators
+///     don't: a call that inserts or erases invalidates them, and so does a move or swap of the container.
+///   - If allocation fails, a call throws std::bad_alloc, and a `try_` call reports it in its result instead. Nothing has changed
 ///     then, and what was to be inserted is still with the caller, unless the call's comment says otherwise.
-///   - If a constructor, a move or a predicate of yours throws, the exception comes through and no pair is lost. The container is sound
+///   - If a constructor, a move or a predicate of yours throws, the exception propagates and no pair is lost. The container is valid
 ///     whenever your code is called: pairs are unlinked before they are destroyed. A constructor of a value may insert the value's own
 ///     key: that pair stays, and the one that was being built is destroyed.
-///   - One call at a time on a container, reads too: a lock orders the calls of two threads.
-///   - Hashes are SipHash-1-3 by a seed from the operating system, unless you give one. The first insertion draws it, and throws
-///     std::system_error if the system has none. Keys that nobody chooses against you are looked up faster by bucket::fixed_seed.
+///   - One call at a time on a container, including reads: a lock orders the calls of two threads.
+///   - Keys are hashed by SipHash-1-3, with a seed from the operating system unless you give one. The first insertion draws it, and
+///     throws std::system_error if the system has none. If no attacker chooses the keys, bucket::fixed_seed makes look-ups faster.
 ///
-/// Costs are expected ones; n is the number of slots, some 1.2 to 8 a pair.
+/// Costs are expected costs; n is the number of slots, about 1.2 to 8 per pair.
 #ifndef BUCKET_HPP
 #define BUCKET_HPP
 
@@ -48,27 +48,27 @@
 
 namespace bucket {
 
-/// The 16 bytes that keys are hashed by.
+/// The 16 bytes of a seed for the hash of keys.
 using seed = bucket_seed;
 
-/// The seed of a faster hash, by which an enemy can choose keys that meet in one bucket.
+/// The seed of a faster hash, with which an attacker can choose keys that collide in one bucket.
 inline constexpr seed fixed_seed{0, 0};
 
-/// What an insertion that doesn't throw came to.
+/// The outcome of an insertion that doesn't throw.
 enum class [[nodiscard]] outcome {
     inserted, ///< the key was absent
     present,  ///< the key was there
     no_memory ///< allocation failed, and nothing has changed
 };
 
-/// What a `try_` insertion into a map came to, and where the value is.
+/// The outcome of a `try_` insertion into a map, and a pointer to the value.
 template <class V> struct [[nodiscard]] attempt {
     bucket::outcome outcome = bucket::outcome::no_memory;
     V *value = nullptr; ///< null if allocation failed
 
-    /// Whether the value is there; false if allocation failed.
+    /// Whether the value is present; false if allocation failed.
     explicit operator bool() const noexcept { return value != nullptr; }
-    /// Whether the key was absent, and is there now.
+    /// Whether the key was absent, and is present now.
     bool inserted() const noexcept { return outcome == bucket::outcome::inserted; }
 };
 
@@ -85,7 +85,7 @@ inline const std::uint8_t *bytes_of(std::string_view key) noexcept {
     return reinterpret_cast<const std::uint8_t *>(key.data());
 }
 
-// A text key on its way in: it isn't copied to look it up, and an rvalue is moved from if it is inserted.
+// A text key that is passed in: a look-up doesn't copy it, and an rvalue is moved from if it is inserted.
 class text_key {
   public:
     text_key(std::string &&key) noexcept : view_(key), given_(&key) {}
@@ -100,7 +100,7 @@ class text_key {
     std::string *given_ = nullptr;
 };
 
-// `view` is what a table is asked for, `looked_up` and `given` are the parameters of look-ups and of insertions.
+// `view` is the type that a table looks up; `looked_up` and `given` are the parameter types of look-ups and of insertions.
 template <class K> struct key_traits {
     static_assert((std::is_integral_v<K> || std::is_enum_v<K>) && sizeof(K) <= 8 && std::is_same_v<K, std::remove_cv_t<K>>,
                   "bucket: a key is an integral type or an enum of at most 64 bits, or std::string");
@@ -140,7 +140,7 @@ template <class Call> bool unless_refused(Call call) {
     }
 }
 
-// Whether a range of such iterators can be read twice.
+// Whether a range with such iterators can be read twice.
 template <class It, class Tag = typename std::iterator_traits<It>::iterator_category>
 inline constexpr bool is_read_twice = std::is_base_of_v<std::forward_iterator_tag, Tag>;
 
@@ -149,7 +149,7 @@ template <class It> using item_of = typename std::iterator_traits<It>::value_typ
 template <class It> using key_in = std::remove_const_t<typename item_of<It>::first_type>;
 template <class It> using value_in = typename item_of<It>::second_type;
 
-// The calls of the kinds that hold a word a key.
+// The calls of the kinds with one word per key.
 
 struct map_calls {
     static std::uint32_t open(bucket_handle *to, std::size_t room, seed by, std::uint64_t) {
@@ -233,25 +233,25 @@ inline seed drawn_seed() {
     return drawn;
 }
 
-// A seed of its own for each container: one draw a process, and a count.
+// A separate seed for each container: one draw per process, plus a counter.
 inline seed next_seed() {
     static const seed first = drawn_seed();
     static std::atomic<std::uint64_t> count{0};
     return {first.key0 + count.fetch_add(1, std::memory_order_relaxed), first.key1};
 }
 
-// A handle, how many keys are in, and what it is opened with. It stays closed until the first insertion, so that neither a default
-// constructor nor a move takes memory.
+// A handle, how many keys it holds, and what it is opened with. It stays closed until the first insertion, so that neither a default
+// constructor nor a move allocates.
 class holder {
   public:
     using size_type = std::size_t;
     using difference_type = std::ptrdiff_t;
 
-    /// How many pairs or keys. O(1).
+    /// Returns the number of pairs or keys. O(1).
     size_type size() const noexcept { return size_; }
-    /// Whether there is none. O(1).
+    /// Returns whether there are none. O(1).
     [[nodiscard]] bool empty() const noexcept { return size_ == 0; }
-    /// How many slots there are. O(1).
+    /// Returns the number of slots. O(1).
     size_type capacity() const noexcept { return bucket_capacity(&handle_); }
 
   protected:
@@ -286,7 +286,7 @@ class holder {
         return checked(code);
     }
 
-    // So many keys find room without being expected.
+    // Up to this many keys, no room is made in advance.
     static constexpr size_type few = 32;
 
     bucket_handle handle_{};
@@ -295,15 +295,15 @@ class holder {
     size_type room_ = 0;
 };
 
-// A pair, or a text key of a set, on the heap; its address stands in the table. `link` is of use within one call alone, to list nodes
-// without memory.
+// A pair, or a text key of a set, on the heap; the table stores its address. `link` is used only within one call, to list nodes without
+// allocating.
 template <class Item> struct node {
     template <class... A> explicit node(A &&...from) : item(std::forward<A>(from)...) {}
     Item item;
     node *link = nullptr;
 };
 
-// What a node has of a map or a cache, and of a set of texts.
+// The shape of a node of a map or a cache, and of a set of texts.
 
 template <class K, class V> struct pair_shape {
     static_assert(std::is_object_v<V> && !std::is_array_v<V> && std::is_same_v<V, std::remove_cv_t<V>>,
@@ -335,17 +335,17 @@ template <class Item> std::uint64_t word_of(const node<Item> *at) noexcept {
     return static_cast<std::uint64_t>(reinterpret_cast<std::uintptr_t>(at));
 }
 
-// An odd word is no node: it holds the place of a pair that is being built.
+// An odd word isn't a node: it reserves the place of a pair that is being built.
 template <class Item> node<Item> *node_of(std::uint64_t word) noexcept {
     return word % 2 == 0 ? reinterpret_cast<node<Item> *>(static_cast<std::uintptr_t>(word)) : nullptr;
 }
 
-// Reads the nodes of a table piece by piece, in slot order, without memory.
+// Reads the nodes of a table in pieces, in slot order, without allocating.
 template <class Item> class reading {
   public:
     reading() noexcept = default;
     explicit reading(const bucket_handle *in) noexcept : in_(in) { refill(); }
-    // Of one node alone.
+    // For one node only.
     explicit reading(const node<Item> *only) noexcept : count_(1) { words_[0] = word_of(only); }
     reading(const reading &other) noexcept { *this = other; }
     reading &operator=(const reading &other) noexcept {
@@ -358,7 +358,7 @@ template <class Item> class reading {
     }
     ~reading() = default;
 
-    // Null behind the last one.
+    // Null at the end.
     node<Item> *current() const noexcept { return at_ < count_ ? node_of<Item>(words_[at_]) : nullptr; }
     void next() noexcept {
         if (++at_ == count_) {
@@ -423,39 +423,39 @@ template <class Item, class Seen> class node_iterator {
     reading<Item> reading_;
 };
 
-// What maps, caches and sets of texts have.
+// The members that maps, caches and sets of texts share.
 template <class Shape, class Calls> class nodes : public holder {
   public:
     using key_type = typename Shape::key;
     using iterator = node_iterator<typename Shape::item, typename Shape::item>;
     using const_iterator = node_iterator<typename Shape::item, const typename Shape::item>;
-    /// What look-ups take: std::string_view for texts, so that no key is copied.
+    /// The type of look-up arguments: std::string_view for texts, so that no key is copied.
     using key_view = typename key_traits<key_type>::looked_up;
 
-    /// The pairs or keys, in an order that any insertion or erasure changes. O(n) for all together, and without memory.
+    /// The pairs or keys, in an order that any insertion or erasure changes. All steps together O(n), without allocating.
     iterator begin() noexcept { return iterator(&handle_); }
     /// The same.
     const_iterator begin() const noexcept { return const_iterator(&handle_); }
     /// The same.
     const_iterator cbegin() const noexcept { return begin(); }
-    /// Behind the last one.
+    /// The end.
     iterator end() noexcept { return iterator(); }
     /// The same.
     const_iterator end() const noexcept { return const_iterator(); }
     /// The same.
     const_iterator cend() const noexcept { return end(); }
 
-    /// Whether a key is there. O(1).
+    /// Returns whether a key is present. O(1).
     bool contains(key_view key) const noexcept { return look(traits::view_of(key)) != nullptr; }
-    /// 1 if a key is there, else 0. O(1).
+    /// Returns 1 if a key is present, else 0. O(1).
     size_type count(key_view key) const noexcept { return contains(key) ? 1 : 0; }
 
-    /// Erases a key, and returns how many went: 0 or 1. Takes no memory. O(1).
+    /// Erases a key, and returns how many were erased: 0 or 1. Allocates nothing. O(1).
     size_type erase(key_view key) {
         std::unique_ptr<node_type> gone(unlink(traits::view_of(key)));
         return gone ? 1 : 0;
     }
-    /// Erases a range, and returns how many went. Takes no memory. O(n).
+    /// Erases a range, and returns how many were erased. Allocates nothing. O(n).
     size_type erase(const_iterator first, const_iterator last) {
         node_type *doomed = nullptr;
         for (; first != last; ++first) {
@@ -465,7 +465,8 @@ template <class Shape, class Calls> class nodes : public holder {
         return erase_listed(doomed);
     }
 
-    /// Erases all that a predicate holds of, and returns how many. Takes no memory. The predicate mustn't change the container; it has
+    /// Erases everything for which a predicate holds, and returns how many were erased. Allocates nothing. The predicate must not change
+    /// the container. It judges all before one is erased, so if it throws, all stay. O(n).
     /// judged all before one is erased, so if it throws, all stay. O(n).
     template <class Pred> size_type erase_if(Pred pred) {
         node_type *doomed = nullptr;
@@ -477,7 +478,7 @@ template <class Shape, class Calls> class nodes : public holder {
         return erase_listed(doomed);
     }
 
-    /// Erases all, and gives the slots up; the seed stays. Takes no memory. O(n).
+    /// Erases everything, and frees the slots; the seed stays. Allocates nothing. O(n).
     void clear() noexcept {
         node_type *all = list();
         size_ = 0;
@@ -517,7 +518,7 @@ template <class Shape, class Calls> class nodes : public holder {
         return Calls::find(&handle_, key, &held) == BUCKET_OK ? node_of<item>(held) : nullptr;
     }
 
-    // Takes a node out of the table, and returns it; or null.
+    // Takes a node out of the table, and returns it, or null.
     node_type *unlink(view key) noexcept {
         std::uint64_t held = 0;
         node_type *gone = Calls::remove(&handle_, key, &held) == BUCKET_OK ? node_of<item>(held) : nullptr;
@@ -533,7 +534,7 @@ template <class Shape, class Calls> class nodes : public holder {
         return all;
     }
 
-    // All are out of the table before one is destroyed.
+    // All are removed from the table before one is destroyed.
     size_type erase_listed(node_type *listed) noexcept {
         for (node_type *at = listed; at; at = at->link) {
             unlink(view_of(*at));
@@ -549,19 +550,19 @@ template <class Shape, class Calls> class nodes : public holder {
         return count;
     }
 
-    // Puts a word in, and returns null; or returns the node that has the key.
+    // Inserts a word, and returns null; or returns the node that has the key.
     node_type *enter(view key, std::uint64_t word) {
         std::uint64_t held = 0;
         std::uint32_t code = on_open([&] { return Calls::find_or_insert(&handle_, key, word, &held); });
         node_type *there = code == BUCKET_PRESENT ? node_of<item>(held) : nullptr;
         if (code == BUCKET_PRESENT && !there) {
-            // A constructor of the pair inserts its own key: this call wins.
+            // A constructor of the pair inserted the pair's own key: this call wins.
             checked(Calls::write(&handle_, key, word, &held));
         }
         return there;
     }
 
-    // Puts a node in; or returns the one that has its key, and false.
+    // Inserts a node; or returns the one that has its key, and false.
     std::pair<node_type *, bool> link(node_type *at) {
         if (node_type *there = enter(view_of(*at), word_of(at))) {
             return {there, false};
@@ -570,7 +571,7 @@ template <class Shape, class Calls> class nodes : public holder {
         return {at, true};
     }
 
-    // Holds the place of a key in the table by an odd word, until its pair is built.
+    // Reserves the place of a key in the table by an odd word, until its pair is built.
     class claim {
       public:
         claim(nodes &in, view key) : in_(in), key_(key), there_(in.enter(key, word())), is_held_(there_ == nullptr) {}
@@ -586,7 +587,7 @@ template <class Shape, class Calls> class nodes : public holder {
         // The node that had the key before, or null.
         node_type *there() const noexcept { return there_; }
 
-        // Builds the pair from the rest. It gets the place, unless its constructor has inserted the key: then that pair stays.
+        // Builds the pair from the rest. The pair gets the place, unless its constructor has inserted the key: then that pair stays.
         template <class Given, class... A> std::pair<node_type *, bool> fill(const Given &given, A &&...from) {
             std::unique_ptr<node_type> made(Shape::make(given, std::forward<A>(from)...));
             is_held_ = false;
@@ -609,7 +610,8 @@ template <class Shape, class Calls> class nodes : public holder {
         bool is_held_;
     };
 
-    // Builds a pair from the rest, if the key is absent; returns where it is, and whether it was built. All memory of the table is there
+    // Builds a pair from the rest, if the key is absent; returns where the pair is, and whether it was built. All memory of the table is
+    // allocated before anything is moved from.
     // before anything is moved from.
     template <class Given, class... A> std::pair<node_type *, bool> build(const Given &given, A &&...from) {
         claim place(*this, traits::view_given(given));
@@ -619,7 +621,7 @@ template <class Shape, class Calls> class nodes : public holder {
         return place.fill(given, std::forward<A>(from)...);
     }
 
-    // Moves the nodes over whose keys are absent here. If allocation fails, each node is in one of the two.
+    // Moves over the nodes whose keys are absent here. If allocation fails, each node is in one of the two.
     void merge_from(nodes &other) {
         if (this == &other) {
             return;
@@ -638,14 +640,14 @@ template <class Shape, class Calls> class nodes : public holder {
         }
     }
 
-    // Makes room for many keys that come. In the order of another container's slots, by its seed,
-    // they'd all meet in the first buckets of a table that grows as it is filled.
+    // Makes room for many keys that come. If they come in the order of another container's slots, with its seed, they would all collide
+    // in the first buckets of a table that grows while it is filled.
     void expect(size_type for_all) {
         if (for_all > few) {
             make_room(for_all);
         }
     }
-    // The same of a range. It may have a key many times, so room that can't be had is done without.
+    // The same for a range. It may have a key many times, so failing to make room is not an error.
     template <class It> void expect(It first, It last) {
         if constexpr (is_read_twice<It>) {
             auto count = static_cast<size_type>(std::distance(first, last));
@@ -654,7 +656,7 @@ template <class Shape, class Calls> class nodes : public holder {
     }
 };
 
-// An input iterator over the keys of a set of words, which it gives by value.
+// An input iterator over the keys of a set of words, which it returns by value.
 template <class K> class word_iterator {
   public:
     using iterator_category = std::input_iterator_tag;
@@ -665,7 +667,7 @@ template <class K> class word_iterator {
 
     word_iterator() noexcept = default;
     explicit word_iterator(const bucket_handle *in) noexcept : in_(in) { refill(); }
-    // Of one key alone.
+    // For one key only.
     explicit word_iterator(K only) noexcept : count_(1) { pairs_[0] = {key_traits<K>::view_of(only), 0}; }
     word_iterator(const word_iterator &other) noexcept { *this = other; }
     word_iterator &operator=(const word_iterator &other) noexcept {
@@ -712,40 +714,40 @@ template <class K> class word_iterator {
     bucket_pair pairs_[room];
 };
 
-// What sets of words have, as `nodes` of texts.
+// The members of sets of words, like `nodes` for texts.
 template <class K> class words : public holder {
   public:
     using key_type = K;
     using iterator = word_iterator<K>;
     using const_iterator = iterator;
-    /// What look-ups take.
+    /// The type of look-up arguments.
     using key_view = K;
 
-    /// The keys, in an order that any insertion or erasure changes. O(n) for all together, and without memory.
+    /// The keys, in an order that any insertion or erasure changes. All steps together O(n), without allocating.
     iterator begin() const noexcept { return iterator(&handle_); }
     /// The same.
     iterator cbegin() const noexcept { return begin(); }
-    /// Behind the last one.
+    /// The end.
     iterator end() const noexcept { return iterator(); }
     /// The same.
     iterator cend() const noexcept { return end(); }
 
-    /// Whether a key is there. O(1).
+    /// Returns whether a key is present. O(1).
     bool contains(K key) const noexcept { return bucket_set_contains(&handle_, traits::view_of(key)) == BUCKET_OK; }
-    /// 1 if a key is there, else 0. O(1).
+    /// Returns 1 if a key is present, else 0. O(1).
     size_type count(K key) const noexcept { return contains(key) ? 1 : 0; }
 
-    /// Erases a key, and returns how many went: 0 or 1. Takes no memory. O(1).
+    /// Erases a key, and returns how many were erased: 0 or 1. Allocates nothing. O(1).
     size_type erase(K key) noexcept {
         size_type gone = bucket_set_remove(&handle_, traits::view_of(key)) == BUCKET_OK ? 1 : 0;
         size_ -= gone;
         return gone;
     }
-    /// Erases a range, and returns how many went. If allocation of a list of them fails, all stay. O(n).
+    /// Erases a range, and returns how many were erased. If a list of them can't be allocated, all stay. O(n).
     size_type erase(const_iterator first, const_iterator last) { return erase_listed(std::vector<K>(first, last)); }
 
-    /// Erases all that a predicate holds of, and returns how many. The predicate mustn't change the set; it has judged all before one is
-    /// erased, so if it throws, or allocation of a list of what goes fails, all stay. O(n).
+    /// Erases everything for which a predicate holds, and returns how many were erased. The predicate must not change the set. It judges
+    /// all before one is erased, so if it throws, or a list of the keys to erase can't be allocated, all stay. O(n).
     template <class Pred> size_type erase_if(Pred pred) {
         std::vector<K> doomed;
         for (const K key : *this) {
@@ -756,7 +758,7 @@ template <class K> class words : public holder {
         return erase_listed(doomed);
     }
 
-    /// Erases all, and gives the slots up; the seed stays. Takes no memory. O(n).
+    /// Erases everything, and frees the slots; the seed stays. Allocates nothing. O(n).
     void clear() noexcept {
         static_cast<void>(bucket_clear(&handle_));
         size_ = 0;
@@ -798,14 +800,14 @@ template <class K> class words : public holder {
         }
     }
 
-    // Makes room for many keys that come. In the order of another container's slots, by its seed,
-    // they'd all meet in the first buckets of a table that grows as it is filled.
+    // Makes room for many keys that come. If they come in the order of another container's slots, with its seed, they would all collide
+    // in the first buckets of a table that grows while it is filled.
     void expect(size_type for_all) {
         if (for_all > few) {
             make_room(for_all);
         }
     }
-    // The same of a range. It may have a key many times, so room that can't be had is done without.
+    // The same for a range. It may have a key many times, so failing to make room is not an error.
     template <class It> void expect(It first, It last) {
         if constexpr (is_read_twice<It>) {
             auto count = static_cast<size_type>(std::distance(first, last));
@@ -813,7 +815,7 @@ template <class K> class words : public holder {
         }
     }
 
-    // The list of what moves is there before anything does.
+    // The list of what moves is allocated before anything moves.
     void merge_from(words &other) {
         if (this == &other) {
             return;
@@ -838,33 +840,33 @@ using keys = std::conditional_t<std::is_same_v<K, std::string>, nodes<key_shape<
 
 } // namespace detail
 
-/// A pair that has left its container, or none. It owns the pair, which hasn't moved: pointers to it stay good. It is used as a
-/// std::optional of the pair, and turns into one.
+/// A pair that was taken out of its container, or none. It owns the pair, which hasn't moved: pointers to it remain valid. It is used
+/// like a std::optional of the pair, and converts to one.
 template <class K, class V> class taken {
   public:
     using key_type = K;
     using mapped_type = V;
     using value_type = std::pair<const K, V>;
 
-    /// None.
+    /// No pair.
     taken() noexcept = default;
 
-    /// Whether there is a pair.
+    /// Returns whether there is a pair.
     bool has_value() const noexcept { return node_ != nullptr; }
     /// The same.
     explicit operator bool() const noexcept { return has_value(); }
-    /// Whether there is none.
+    /// Returns whether there is none.
     [[nodiscard]] bool empty() const noexcept { return !has_value(); }
 
     /// The pair; there must be one.
     value_type &operator*() const noexcept { return node_->item; }
     /// The same.
     value_type *operator->() const noexcept { return &node_->item; }
-    /// Its key; there must be one. It may be changed: an insertion is by the key that the pair has then.
+    /// The pair's key; there must be one. It may be changed: an insertion uses the key that the pair has then.
     K &key() const noexcept { return *std::launder(const_cast<K *>(&node_->item.first)); }
-    /// Its value; there must be one.
+    /// The pair's value; there must be one.
     V &mapped() const noexcept { return node_->item.second; }
-    /// The pair, or throws std::bad_optional_access.
+    /// The pair; throws std::bad_optional_access if there is none.
     value_type &value() const { return node_ ? node_->item : throw std::bad_optional_access(); }
 
     /// The pair by value: the key is copied, and the value moved.
@@ -882,7 +884,7 @@ template <class K, class V> class taken {
     std::unique_ptr<node> node_;
 };
 
-/// A hash map. What its base has is of it too: size, empty, capacity, begin, end, contains, count, erase, erase_if, clear.
+/// A hash map. It also has the members of its base: size, empty, capacity, begin, end, contains, count, erase, erase_if, clear.
 template <class K, class V> class map : public detail::nodes<detail::pair_shape<K, V>, detail::map_calls> {
     using base = detail::nodes<detail::pair_shape<K, V>, detail::map_calls>;
     using given = typename detail::key_traits<K>::given;
@@ -901,35 +903,35 @@ template <class K, class V> class map : public detail::nodes<detail::pair_shape<
     using typename base::key_view;
     using typename base::size_type;
 
-    /// What an insertion of a pair that was taken out came to.
+    /// The outcome of inserting a pair that was taken out.
     struct insert_return_type {
         V *position;    ///< where the key's value is; null if the pair was none
         bool inserted;  ///< whether the pair is in
         node_type node; ///< the pair, if it isn't in
     };
 
-    /// An empty map. Takes no memory.
+    /// An empty map. Allocates nothing.
     map() noexcept = default;
-    /// An empty map, hashed by a seed. Takes no memory.
+    /// An empty map, hashed with a seed. Allocates nothing.
     explicit map(seed by) noexcept : base(0, by) {}
-    /// An empty map with room for so many pairs. O(n).
+    /// An empty map with room for that many pairs. O(n).
     explicit map(size_type room, std::optional<seed> by = std::nullopt) : base(0, by) { reserve(room); }
-    /// Inserts a range of pairs; of those of one key the first stays. O(n).
+    /// Inserts a range of pairs; of pairs with equal keys the first stays. O(n).
     template <class It, class = detail::needs_iterator<It>>
     map(It first, It last, std::optional<seed> by = std::nullopt) : base(0, by) {
         insert(first, last);
     }
-    /// The same of a list.
+    /// The same for a list.
     map(std::initializer_list<value_type> pairs, std::optional<seed> by = std::nullopt) : base(0, by) {
         insert(pairs);
     }
     map(const map &) = delete;
     map &operator=(const map &) = delete;
-    /// Takes all of another map, which is empty afterwards. O(1).
+    /// Takes everything from another map, which is empty afterwards. O(1).
     map(map &&) noexcept = default;
-    /// The same; what was here is destroyed.
+    /// The same; the pairs that were here are destroyed.
     map &operator=(map &&) noexcept = default;
-    /// Replaces all by a list; if that throws, all stay.
+    /// Replaces all pairs by those of a list; if that throws, all stay.
     map &operator=(std::initializer_list<value_type> pairs) {
         map made(pairs, this->seed_);
         swap(made);
@@ -937,7 +939,7 @@ template <class K, class V> class map : public detail::nodes<detail::pair_shape<
     }
     ~map() = default;
 
-    /// A copy, hashed by a seed of its own unless this one's was given. O(n).
+    /// Returns a copy, hashed with a seed of its own unless this map's seed was given. O(n).
     [[nodiscard]] map clone() const {
         map copy(this->seed_);
         copy.reserve(this->size());
@@ -947,7 +949,7 @@ template <class K, class V> class map : public detail::nodes<detail::pair_shape<
         return copy;
     }
 
-    /// The value of a key, or null. O(1).
+    /// Returns a pointer to the value of a key, or null. O(1).
     V *find(key_view key) noexcept {
         node *there = this->look(base::traits::view_of(key));
         return there ? &there->item.second : nullptr;
@@ -957,7 +959,7 @@ template <class K, class V> class map : public detail::nodes<detail::pair_shape<
         const node *there = this->look(base::traits::view_of(key));
         return there ? &there->item.second : nullptr;
     }
-    /// The value of a key, or throws std::out_of_range. O(1).
+    /// Returns the value of a key, or throws std::out_of_range. O(1).
     V &at(key_view key) {
         V *there = find(key);
         return there ? *there : throw std::out_of_range("bucket::map::at");
@@ -967,15 +969,15 @@ template <class K, class V> class map : public detail::nodes<detail::pair_shape<
         const V *there = find(key);
         return there ? *there : throw std::out_of_range("bucket::map::at");
     }
-    /// The value of a key; V() is inserted if the key is absent. O(1).
+    /// Returns the value of a key; inserts V() if the key is absent. O(1).
     V &operator[](given key) { return this->build(key).first->item.second; }
 
-    /// Inserts V(from...) if the key is absent; else `from` isn't touched. Returns where the value is, and whether it was put. O(1).
+    /// Inserts V(from...) if the key is absent; else `from` isn't touched. Returns where the value is, and whether it was inserted. O(1).
     template <class... A> std::pair<V *, bool> try_emplace(given key, A &&...from) {
         auto [at, is_new] = this->build(key, std::forward<A>(from)...);
         return {&at->item.second, is_new};
     }
-    /// Inserts a pair, or assigns to the value that is there. Returns where the value is, and whether it was put. If the assignment
+    /// Inserts a pair, or assigns to the present value. Returns where the value is, and whether it was inserted. If the assignment
     /// throws, the earlier value stays, provided that a move assignment of V doesn't throw. O(1).
     template <class M> std::pair<V *, bool> insert_or_assign(given key, M &&value) {
         typename base::claim place(*this, base::traits::view_given(key));
@@ -986,17 +988,17 @@ template <class K, class V> class map : public detail::nodes<detail::pair_shape<
         auto [at, is_new] = place.fill(key, std::forward<M>(value));
         return {&at->item.second, is_new};
     }
-    /// Inserts a pair if its key is absent. Returns where the key's value is, and whether it was put. O(1).
+    /// Inserts a pair if its key is absent. Returns where the key's value is, and whether it was inserted. O(1).
     std::pair<V *, bool> insert(const value_type &pair) { return try_emplace(pair.first, pair.second); }
     /// The same.
     std::pair<V *, bool> insert(value_type &&pair) { return try_emplace(pair.first, std::move(pair.second)); }
-    /// The same for std::inserter: the hint is of no use. Returns an iterator at the key's pair, behind which is end().
+    /// The same for std::inserter: the hint is ignored. Returns an iterator at the key's pair, whose successor is end().
     iterator insert(const_iterator, const value_type &pair) { return iterator(this->build(given(pair.first), pair.second).first); }
     /// The same.
     iterator insert(const_iterator, value_type &&pair) {
         return iterator(this->build(given(pair.first), std::move(pair.second)).first);
     }
-    /// Inserts a range of pairs; of those of one key the first stays. If it throws, those before are in. O(n).
+    /// Inserts a range of pairs; of pairs with equal keys the first stays. If it throws, those before are in the map. O(n).
     template <class It, class = detail::needs_iterator<It>> void insert(It first, It last) {
         this->expect(first, last);
         for (; first != last; ++first) {
@@ -1004,9 +1006,10 @@ template <class K, class V> class map : public detail::nodes<detail::pair_shape<
             try_emplace(std::forward<decltype(pair)>(pair).first, std::forward<decltype(pair)>(pair).second);
         }
     }
-    /// The same of a list.
+    /// The same for a list.
     void insert(std::initializer_list<value_type> pairs) { insert(pairs.begin(), pairs.end()); }
-    /// Inserts a pair that was taken out of a map or a cache, without memory for it. If it throws, the pair stays with the caller. O(1).
+    /// Inserts a pair that was taken out of a map or a cache, without allocating for the pair. If it throws, the pair stays with the
+    /// caller. O(1).
     insert_return_type insert(node_type &&pair) {
         if (!pair) {
             return {nullptr, false, {}};
@@ -1017,73 +1020,73 @@ template <class K, class V> class map : public detail::nodes<detail::pair_shape<
         }
         return {&at->item.second, is_new, std::move(pair)};
     }
-    /// Inserts value_type(from...). Of a key and what V is made of it is try_emplace; else the pair is made first, and destroyed if its
-    /// key is there or allocation fails. O(1).
+    /// Inserts value_type(from...). With a key and the arguments for V it is try_emplace; else the pair is made first, and destroyed if
+    /// its key is present or allocation fails. O(1).
     template <class... A> std::pair<V *, bool> emplace(A &&...from) {
         auto [at, is_new] = emplaced(std::forward<A>(from)...);
         return {&at->item.second, is_new};
     }
-    /// The same, and returns what an insertion with a hint does.
+    /// The same, and returns what an insertion with a hint returns.
     template <class... A> iterator emplace_hint(const_iterator, A &&...from) {
         return iterator(emplaced(std::forward<A>(from)...).first);
     }
 
-    /// As try_emplace, and doesn't throw std::bad_alloc.
+    /// Like try_emplace, but doesn't throw std::bad_alloc.
     template <class... A> attempt<V> try_insert(given key, A &&...from) {
         return attempted([&] { return try_emplace(key, std::forward<A>(from)...); });
     }
-    /// As insert, and doesn't throw std::bad_alloc.
+    /// Like insert, but doesn't throw std::bad_alloc.
     attempt<V> try_insert(const value_type &pair) { return try_insert(pair.first, pair.second); }
     /// The same.
     attempt<V> try_insert(value_type &&pair) { return try_insert(pair.first, std::move(pair.second)); }
-    /// As insert_or_assign, and doesn't throw std::bad_alloc.
+    /// Like insert_or_assign, but doesn't throw std::bad_alloc.
     template <class M> attempt<V> try_insert_or_assign(given key, M &&value) {
         return attempted([&] { return insert_or_assign(key, std::forward<M>(value)); });
     }
 
-    /// Takes a pair out, which stays where it is. None if the key is absent. Takes no memory. O(1).
+    /// Takes a pair out, which keeps its address. None if the key is absent. Allocates nothing. O(1).
     node_type extract(key_view key) noexcept { return node_type(this->unlink(base::traits::view_of(key))); }
 
-    /// Moves the pairs of another map here whose keys are absent here; the others stay there. If allocation fails, some have moved, and
+    /// Moves here the pairs of another map whose keys are absent here; the others stay there. If allocation fails, some have moved, and
     /// each pair is in one of the two. O(n).
     void merge(map &other) { this->merge_from(other); }
     /// The same.
     void merge(map &&other) { this->merge_from(other); }
-    /// As merge; false if allocation failed.
+    /// Like merge; false if allocation failed.
     [[nodiscard]] bool try_merge(map &other) {
         return detail::unless_refused([&] { merge(other); });
     }
 
-    /// Makes room for so many pairs in all. O(n).
+    /// Makes room for that many pairs in all. O(n).
     void reserve(size_type for_all) { this->make_room(for_all); }
     /// The same; false if allocation failed.
     [[nodiscard]] bool try_reserve(size_type for_all) {
         return detail::unless_refused([&] { reserve(for_all); });
     }
-    /// Leaves as few slots as the pairs take, if memory allows. O(n).
+    /// Leaves as few slots as the pairs need, if memory allows. O(n).
     void shrink_to_fit() noexcept { static_cast<void>(bucket_shrink(&this->handle_)); }
-    /// More pairs than memory has.
+    /// More pairs than fit in memory.
     size_type max_size() const noexcept { return PTRDIFF_MAX / sizeof(node); }
 
-    /// Swaps all of two maps. O(1).
+    /// Swaps two maps. O(1).
     void swap(map &other) noexcept { this->swap_held(other); }
     /// The same.
     friend void swap(map &a, map &b) noexcept { a.swap(b); }
 
-    /// Whether two maps have equal pairs. O(n).
+    /// Returns whether two maps have equal pairs. O(n).
     friend bool operator==(const map &a, const map &b) {
         return a.size() == b.size() && std::all_of(a.begin(), a.end(), [&](const value_type &pair) {
                    const V *other = b.find(pair.first);
                    return other && *other == pair.second;
                });
     }
-    /// Whether they differ.
+    /// Returns whether they differ.
     friend bool operator!=(const map &a, const map &b) { return !(a == b); }
 
   private:
     explicit map(std::optional<seed> by) noexcept : base(0, by) {}
 
-    // Whether an emplace is a key, and what one value is made of.
+    // Whether the arguments of an emplace are a key and what one value is made from.
     template <class... A> static constexpr bool is_key_and_value() noexcept {
         if constexpr (sizeof...(A) == 2) {
             return std::is_convertible_v<std::tuple_element_t<0, std::tuple<A...>>, given>;
@@ -1092,7 +1095,7 @@ template <class K, class V> class map : public detail::nodes<detail::pair_shape<
         }
     }
 
-    // The node of an emplace's key, and whether it was put.
+    // The node with an emplace's key, and whether it was inserted.
     template <class... A> std::pair<node *, bool> emplaced(A &&...from) {
         if constexpr (is_key_and_value<A...>()) {
             return [this](given key, auto &&value) {
@@ -1128,24 +1131,25 @@ template <class K, class V> class map : public detail::nodes<detail::pair_shape<
     }
 };
 
-/// The types of a map are those of the pairs that it is made of.
+/// Deduces the types of a map from the pairs that it is made from.
 template <class It, class = detail::needs_iterator<It>>
 map(It, It, std::optional<seed> = std::nullopt) -> map<detail::key_in<It>, detail::value_in<It>>;
 /// The same.
 template <class K, class V>
 map(std::initializer_list<std::pair<K, V>>, std::optional<seed> = std::nullopt) -> map<std::remove_const_t<K>, V>;
 
-/// What an insertion into a set came to: a pair, and a truth value.
+/// The outcome of an insertion into a set: a pair, and a truth value.
 template <class Key> struct insertion {
     Key first;   ///< the key that is in: of texts a reference to it
     bool second; ///< whether it was put
 
-    /// Whether it was put.
+    /// Whether it was inserted.
     operator bool() const noexcept { return second; }
 };
 
-/// A hash set. Of words its iterators give keys by value, and a key takes a slot alone; of texts they give references that stay good
-/// until the key is erased. What its base has is of it too: size, empty, capacity, begin, end, contains, count, erase, erase_if, clear.
+/// A hash set. If the keys are words, its iterators return keys by value, and a key takes only a slot; if they are texts, they return
+/// references that remain valid until the key is erased. It also has the members of its base: size, empty, capacity, begin, end,
+/// contains, count, erase, erase_if, clear.
 template <class K> class set : public detail::keys<K> {
     using base = detail::keys<K>;
     using given = typename detail::key_traits<K>::given;
@@ -1159,26 +1163,26 @@ template <class K> class set : public detail::keys<K> {
     using typename base::key_view;
     using typename base::size_type;
 
-    /// An empty set. Takes no memory.
+    /// An empty set. Allocates nothing.
     set() noexcept = default;
-    /// An empty set, hashed by a seed. Takes no memory.
+    /// An empty set, hashed with a seed. Allocates nothing.
     explicit set(seed by) noexcept : base(0, by) {}
-    /// An empty set with room for so many keys. O(n).
+    /// An empty set with room for that many keys. O(n).
     explicit set(size_type room, std::optional<seed> by = std::nullopt) : base(0, by) { reserve(room); }
     /// Inserts a range of keys. O(n).
     template <class It, class = detail::needs_iterator<It>>
     set(It first, It last, std::optional<seed> by = std::nullopt) : base(0, by) {
         insert(first, last);
     }
-    /// The same of a list.
+    /// The same for a list.
     set(std::initializer_list<K> all, std::optional<seed> by = std::nullopt) : base(0, by) { insert(all); }
     set(const set &) = delete;
     set &operator=(const set &) = delete;
-    /// Takes all of another set, which is empty afterwards. O(1).
+    /// Takes everything from another set, which is empty afterwards. O(1).
     set(set &&) noexcept = default;
-    /// The same; what was here is destroyed.
+    /// The same; the keys that were here are destroyed.
     set &operator=(set &&) noexcept = default;
-    /// Replaces all by a list; if that throws, all stay.
+    /// Replaces all keys by those of a list; if that throws, all stay.
     set &operator=(std::initializer_list<K> all) {
         set made(all, this->seed_);
         swap(made);
@@ -1186,7 +1190,7 @@ template <class K> class set : public detail::keys<K> {
     }
     ~set() = default;
 
-    /// A copy, hashed by a seed of its own unless this one's was given. O(n).
+    /// Returns a copy, hashed with a seed of its own unless this set's seed was given. O(n).
     [[nodiscard]] set clone() const {
         set copy(this->seed_);
         copy.reserve(this->size());
@@ -1194,7 +1198,7 @@ template <class K> class set : public detail::keys<K> {
         return copy;
     }
 
-    /// Inserts a key. Returns the key that is in, and whether it was put. O(1).
+    /// Inserts a key. Returns the key in the set, and whether it was inserted. O(1).
     insertion<reference> insert(given key) {
         auto [at, is_new] = this->build(key);
         if constexpr (std::is_reference_v<reference>) {
@@ -1203,67 +1207,67 @@ template <class K> class set : public detail::keys<K> {
             return {at, is_new};
         }
     }
-    /// The same of K(from...).
+    /// The same for K(from...).
     template <class... A> insertion<reference> emplace(A &&...from) { return insert(K(std::forward<A>(from)...)); }
-    /// As insert, for std::inserter: the hint is of no use. Returns an iterator at the key, behind which is end().
+    /// Like insert, for std::inserter: the hint is ignored. Returns an iterator at the key, whose successor is end().
     iterator insert(const_iterator, given key) { return iterator(this->build(key).first); }
-    /// The same of K(from...).
+    /// The same for K(from...).
     template <class... A> iterator emplace_hint(const_iterator hint, A &&...from) {
         return insert(hint, K(std::forward<A>(from)...));
     }
-    /// Inserts a range of keys. If it throws, those before are in. O(n).
+    /// Inserts a range of keys. If it throws, those before are in the set. O(n).
     template <class It, class = detail::needs_iterator<It>> void insert(It first, It last) {
         this->expect(first, last);
         for (; first != last; ++first) {
             insert(*first);
         }
     }
-    /// The same of a list.
+    /// The same for a list.
     void insert(std::initializer_list<K> all) { insert(all.begin(), all.end()); }
-    /// As insert, and doesn't throw std::bad_alloc.
+    /// Like insert, but doesn't throw std::bad_alloc.
     outcome try_insert(given key) {
         outcome done = outcome::no_memory;
         static_cast<void>(detail::unless_refused([&] { done = insert(key) ? outcome::inserted : outcome::present; }));
         return done;
     }
 
-    /// Moves the keys of another set here that are absent here; the others stay there. If allocation fails, some have moved, and each is
+    /// Moves here the keys of another set that are absent here; the others stay there. If allocation fails, some have moved, and each is
     /// in one of the two. O(n).
     void merge(set &other) { this->merge_from(other); }
     /// The same.
     void merge(set &&other) { this->merge_from(other); }
-    /// As merge; false if allocation failed.
+    /// Like merge; false if allocation failed.
     [[nodiscard]] bool try_merge(set &other) {
         return detail::unless_refused([&] { merge(other); });
     }
 
-    /// Makes room for so many keys in all. O(n).
+    /// Makes room for that many keys in all. O(n).
     void reserve(size_type for_all) { this->make_room(for_all); }
     /// The same; false if allocation failed.
     [[nodiscard]] bool try_reserve(size_type for_all) {
         return detail::unless_refused([&] { reserve(for_all); });
     }
-    /// Leaves as few slots as the keys take, if memory allows. O(n).
+    /// Leaves as few slots as the keys need, if memory allows. O(n).
     void shrink_to_fit() noexcept { static_cast<void>(bucket_shrink(&this->handle_)); }
-    /// More keys than memory has.
+    /// More keys than fit in memory.
     size_type max_size() const noexcept { return PTRDIFF_MAX / sizeof(bucket_pair); }
 
-    /// Swaps all of two sets. O(1).
+    /// Swaps two sets. O(1).
     void swap(set &other) noexcept { this->swap_held(other); }
     /// The same.
     friend void swap(set &a, set &b) noexcept { a.swap(b); }
 
-    /// Whether each key is in another set. O(n).
+    /// Returns whether each key is in another set. O(n).
     bool is_subset_of(const set &other) const {
         return this->size() <= other.size() &&
                std::all_of(this->begin(), this->end(), [&](const K &key) { return other.contains(key); });
     }
-    /// Whether two sets have the same keys. O(n).
+    /// Returns whether two sets have the same keys. O(n).
     friend bool operator==(const set &a, const set &b) { return a.size() == b.size() && a.is_subset_of(b); }
-    /// Whether they differ.
+    /// Returns whether they differ.
     friend bool operator!=(const set &a, const set &b) { return !(a == b); }
 
-    /// Inserts all keys of another set. If it throws, those before are in. O(n).
+    /// Inserts all keys of another set. If it throws, those before are in the set. O(n).
     set &operator|=(const set &other) {
         if (this != &other) {
             this->expect(other.size());
@@ -1273,12 +1277,12 @@ template <class K> class set : public detail::keys<K> {
         }
         return *this;
     }
-    /// Erases the keys that another set hasn't. O(n).
+    /// Erases the keys that another set does not contain. O(n).
     set &operator&=(const set &other) {
         this->erase_if([&](const K &key) { return !other.contains(key); });
         return *this;
     }
-    /// Erases the keys that another set has. O(n).
+    /// Erases the keys that another set contains. O(n).
     set &operator-=(const set &other) {
         this->erase_if([&](const K &key) { return other.contains(key); });
         return *this;
@@ -1288,23 +1292,23 @@ template <class K> class set : public detail::keys<K> {
     explicit set(std::optional<seed> by) noexcept : base(0, by) {}
 };
 
-/// The type of a set's keys is that of what it is made of.
+/// Deduces the type of a set's keys from what it is made from.
 template <class It, class = detail::needs_iterator<It>> set(It, It, std::optional<seed> = std::nullopt) -> set<detail::item_of<It>>;
 /// The same.
 template <class K> set(std::initializer_list<K>, std::optional<seed> = std::nullopt) -> set<K>;
 
-/// What a `put` that doesn't throw came to.
+/// The outcome of a `put` that doesn't throw.
 template <class K, class V> struct [[nodiscard]] put_attempt {
     V *value = nullptr; ///< where the value is; null if allocation failed, and nothing has changed
     taken<K, V> gone;   ///< the pair that went for it, if one did
 
-    /// Whether the pair is in; false if allocation failed.
+    /// Whether the pair is in the cache; false if allocation failed.
     explicit operator bool() const noexcept { return value != nullptr; }
 };
 
-/// A cache of a bounded number of pairs. Its slots are in buckets of 32: where a key's bucket is full, the pair of it that was put or
-/// got longest ago goes. So pairs are evicted before max_size() is reached. What its base has is of it too: size, empty, capacity,
-/// begin, end, contains, count, erase, erase_if, clear; none of them touches a pair.
+/// A cache of a bounded number of pairs. Its slots are in buckets of 32: if a key's bucket is full, the pair of that bucket that was put
+/// or read by `get` longest ago is evicted. So pairs are evicted before max_size() is reached. It also has the members of its base: size,
+/// empty, capacity, begin, end, contains, count, erase, erase_if, clear; none of them touches a pair.
 template <class K, class V> class cache : public detail::nodes<detail::pair_shape<K, V>, detail::cache_calls> {
     using base = detail::nodes<detail::pair_shape<K, V>, detail::cache_calls>;
     using given = typename detail::key_traits<K>::given;
@@ -1319,37 +1323,37 @@ template <class K, class V> class cache : public detail::nodes<detail::pair_shap
     using typename base::key_view;
     using typename base::size_type;
 
-    /// An empty cache of so many slots, rounded up to a power of two of at least 64. Takes no memory.
+    /// An empty cache with that many slots, rounded up to a power of two of at least 64. Allocates nothing.
     explicit cache(size_type most, std::optional<seed> by = std::nullopt) noexcept : base(most, by) {}
     cache(const cache &) = delete;
     cache &operator=(const cache &) = delete;
-    /// Takes all of another cache, which is empty afterwards. O(1).
+    /// Takes everything from another cache, which is empty afterwards. O(1).
     cache(cache &&) noexcept = default;
-    /// The same; what was here is destroyed.
+    /// The same; the pairs that were here are destroyed.
     cache &operator=(cache &&) noexcept = default;
     ~cache() = default;
 
-    /// Puts a pair, and returns the pair that went for it: the one that it replaces, which has an equal key, or one that is evicted; or
-    /// none. O(1).
+    /// Inserts a pair, and returns the pair that left the cache for it: the one with an equal key, which it replaces, or one that is
+    /// evicted; or none. O(1).
     template <class M = V> node_type put(given key, M &&value) {
         node_type gone;
         place(key, std::forward<M>(value), gone);
         return gone;
     }
-    /// The same, and doesn't throw std::bad_alloc.
+    /// The same, but doesn't throw std::bad_alloc.
     template <class M = V> put_attempt<K, V> try_put(given key, M &&value) {
         put_attempt<K, V> done;
         static_cast<void>(detail::unless_refused([&] { done.value = place(key, std::forward<M>(value), done.gone); }));
         return done;
     }
 
-    /// The value of a key, which is touched; or null. O(1).
+    /// Returns a pointer to the value of a key, which is touched; or null. O(1).
     V *get(key_view key) noexcept {
         std::uint64_t held = 0;
         bool is_there = detail::cache_calls::touch(&this->handle_, base::traits::view_of(key), &held) == BUCKET_OK;
         return is_there ? &detail::node_of<value_type>(held)->item.second : nullptr;
     }
-    /// The value of a key, which isn't touched; or null. O(1).
+    /// Returns a pointer to the value of a key, without touching it; or null. O(1).
     V *peek(key_view key) noexcept {
         node *there = this->look(base::traits::view_of(key));
         return there ? &there->item.second : nullptr;
@@ -1360,10 +1364,10 @@ template <class K, class V> class cache : public detail::nodes<detail::pair_shap
         return there ? &there->item.second : nullptr;
     }
 
-    /// Takes a pair out, which stays where it is. None if the key is absent. Takes no memory. O(1).
+    /// Takes a pair out, which keeps its address. None if the key is absent. Allocates nothing. O(1).
     node_type extract(key_view key) noexcept { return node_type(this->unlink(base::traits::view_of(key))); }
 
-    /// How many slots there are at most: the least power of two that is at least 64 and the number given.
+    /// The maximum number of slots: the least power of two that is at least 64 and the number given.
     size_type max_size() const noexcept {
         size_type slots = 64;
         while (slots < this->room_ && slots <= SIZE_MAX / 2) {
@@ -1372,14 +1376,14 @@ template <class K, class V> class cache : public detail::nodes<detail::pair_shap
         return slots;
     }
 
-    /// Swaps all of two caches. O(1).
+    /// Swaps two caches. O(1).
     void swap(cache &other) noexcept { this->swap_held(other); }
     /// The same.
     friend void swap(cache &a, cache &b) noexcept { a.swap(b); }
 
   private:
     // The pair is built before the table is called, so that a constructor that throws evicts none. If allocation fails then, a value that
-    // was moved from moves back; the key was copied.
+    // was moved from is moved back; the key was copied.
     template <class M> V *place(const given &key, M &&value, node_type &gone) {
         node_type made(new node(std::piecewise_construct, std::forward_as_tuple(detail::key_traits<K>::own(key, false)),
                                 std::forward_as_tuple(std::forward<M>(value))));
@@ -1400,7 +1404,7 @@ template <class K, class V> class cache : public detail::nodes<detail::pair_shap
     }
 };
 
-/// As the member: erases all that a predicate holds of, and returns how many.
+/// Like the member: erases everything for which a predicate holds, and returns how many were erased.
 template <class K, class V, class Pred> std::size_t erase_if(map<K, V> &from, Pred pred) {
     return from.erase_if(std::move(pred));
 }

@@ -1,5 +1,5 @@
-// Prints what calls take with a million pairs, in nanoseconds a call, the least of some rounds: of bucket::map, of
-// std::unordered_map, and of tsl::robin_map and absl::flat_hash_map if their headers are there.
+// Prints how long calls take with a million pairs, in nanoseconds per call, the minimum over some rounds: of bucket::map, of
+// std::unordered_map, and of tsl::robin_map and absl::flat_hash_map if their headers are installed.
 //
 //     c++ -std=c++17 -O2 -Ibindings bindings/cpp/times.cpp libbucket.a -o times && ./times [ROUNDS]
 #include "bucket.hpp"
@@ -16,7 +16,7 @@
 #include <tsl/robin_map.h>
 #define HAS_ROBIN_MAP
 #endif
-// Its templates call functions of its libraries: HAS_FLAT_HASH_MAP is defined where they are linked.
+// Its templates call functions of its libraries, so HAS_FLAT_HASH_MAP is defined only if they are linked.
 #if defined(HAS_FLAT_HASH_MAP)
 #include <absl/container/flat_hash_map.h>
 #endif
@@ -25,7 +25,7 @@ namespace {
 
 constexpr std::size_t pairs = 1000000;
 
-// The least time of each call, by its name.
+// The minimum time of each call, by its name.
 std::map<std::string, double> least;
 volatile std::uint64_t kept;
 

@@ -26,7 +26,7 @@ make_debian() {
     run "the Debian package" dpkg-deb --root-owner-group -Zxz --build "$tree" "$dist/libbucket-dev_${version}_amd64.deb"
 }
 
-# Who keeps the package: as Debian's tools have it, else the commit's author.
+# The maintainer of the package: as Debian's tools have it, else the commit's author.
 maintainer() {
     if [ -n "${DEBFULLNAME-}" ] && [ -n "${DEBEMAIL-}" ]; then
         echo "$DEBFULLNAME <$DEBEMAIL>"
@@ -35,7 +35,7 @@ maintainer() {
     fi
 }
 
-# The newest libc that a symbol of the library is from.
+# The newest libc version that a symbol of the library needs.
 libc() {
     objdump -T "$libraries/libbucket.so" | sed -n 's/^.*GLIBC_\([0-9.]*\).*$/\1/p' | sort -V | tail -n 1
 }

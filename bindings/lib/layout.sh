@@ -1,4 +1,4 @@
-# For bindings/release to source: the headers and libraries as they lie below a prefix.
+# For bindings/release to source: the layout of the headers and libraries below a prefix.
 #
 #   lay_out PREFIX LIBDIR    LIBDIR is the folder of the libraries below the prefix
 
@@ -52,7 +52,7 @@ unset(_bucket_include)
 END
 }
 
-# Before 1.0 another minor version is another interface.
+# Before 1.0 each minor version is a new interface.
 write_cmake_version() {
     local series=${version%.*}
     cat <<END

@@ -1,6 +1,6 @@
 # For bindings/build and bindings/release to source: what bucket.h declares, and libraries of it.
 #
-#   need COMMAND..                      ends the script by one line, where a command isn't there
+#   need COMMAND..                      ends the script with one line, if a command isn't there
 #   declared HEADER                     prints the functions that a header declares, a line each
 #   exported LIBRARY                    prints the symbols that a library, shared or static, defines for others
 #   link_libraries HEADER FOLDER ARCHIVE..   makes libbucket.a and libbucket.so of all members of the archives
@@ -15,7 +15,7 @@ need() {
     done
 }
 
-# What stands in braces isn't declared, but those of `extern "C"` don't count.
+# Text in braces isn't a declaration, but the braces of `extern "C"` don't count.
 declared() {
     awk '
         { text = text $0 "\n" }
@@ -51,8 +51,8 @@ exported() {
     nm "${dynamic[@]}" -g --defined-only "$1" | awk 'NF == 3 { print $3 }' | LC_ALL=C sort -u
 }
 
-# Each exports what the header declares, and nothing else. The archive has one member, so that what the
-# members of the others share stays among them.
+# Each exports what the header declares, and nothing else. The archive has one member, so that symbols that
+# the members of the others share stay internal.
 link_libraries() {
     local header=$1 folder=$2 parts soname
     shift 2

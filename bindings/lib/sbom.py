@@ -2,8 +2,8 @@
 
 usage: sbom.py VERSION SECONDS SOURCES KIT LIBRARIES PACKAGE..
 
-SECONDS is the time that it names, SOURCES what the packages were made of, KIT the line of `rt version`, or
-empty, LIBRARIES the folder of the two libraries. Two runs with the same files print the same.
+SECONDS is its timestamp, SOURCES the sources that the packages were made from, KIT the output of `rt version`,
+or empty, LIBRARIES the folder of the two libraries. Two runs with the same files print the same.
 """
 
 import datetime

@@ -1,8 +1,8 @@
-# For bindings/release to source: that each place that has the version has the one of bindings/VERSION.
+# For bindings/release to source: checks that each place with a version has that of bindings/VERSION.
 #
-#   check_versions    ends the script by a line for each place that differs
+#   check_versions    ends the script with a line for each place that differs
 
-# The version that each place has, a line each: the file, and the version. The wheel has the header's.
+# The version in each place, a line each: the file, and the version. The wheel has the header's.
 stated() {
     echo "bindings/bucket.h $(sed -n 's/^#define BUCKET_VERSION_\(MAJOR\|MINOR\|PATCH\) \([0-9]*\)$/\2/p' \
         "$here/bucket.h" | paste -sd .)"

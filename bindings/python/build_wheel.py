@@ -23,7 +23,7 @@ import zipfile
 HERE = os.path.dirname(os.path.abspath(__file__))
 FLAGS = ["-std=c11", "-O2", "-g", "-fPIC", "-fvisibility=hidden", "-DNDEBUG", "-DPy_LIMITED_API=0x030A0000"]
 LINKS = ["-shared", "-Wl,--exclude-libs,ALL", "-Wl,-z,relro,-z,now", "-Wl,-z,noexecstack"]
-# What a wheel's file has as its date, so that equal sources give equal wheels.
+# The date of each file in a wheel, so that equal sources give equal wheels.
 DATE = (2026, 1, 1, 0, 0, 0)
 
 
@@ -32,7 +32,7 @@ def folder_of(variable, default):
 
 
 def version():
-    """The version that the header has."""
+    """The version in the header."""
     with open(os.path.join(folder_of("BUCKET_INCLUDE", ".."), "bucket.h"), encoding="utf-8") as header:
         text = header.read()
     parts = "MAJOR", "MINOR", "PATCH"
@@ -68,7 +68,7 @@ def package(folder):
     if folder is not None:
         os.makedirs(os.path.join(folder, "bucket"), exist_ok=True)
         for name, data in files.items():
-            # A file that is loaded isn't written over.
+            # A loaded file isn't overwritten in place.
             path = os.path.join(folder, name)
             with open(path + ".new", "wb") as file:
                 file.write(data)

@@ -1,5 +1,5 @@
-"""What calls of Map, Set and Cache take beside dict, set and functools.lru_cache: the least of some rounds, in nanoseconds. Asserts
-nothing: times depend on the machine.
+"""Times calls of Map, Set and Cache against dict, set and functools.lru_cache: the minimum of some rounds, in nanoseconds. Asserts
+nothing, since times depend on the machine.
 
   times.py [ROUNDS [PAIRS]]
 """

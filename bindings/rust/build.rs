@@ -1,15 +1,15 @@
-//! Links libbucket.a: that of the folder that BUCKET_LIB_DIR names, else the package's own, else the one
-//! that bindings/build made in a checkout.
+//! Links libbucket.a: the one in the folder that BUCKET_LIB_DIR names, else the package's own, else the one that
+//! bindings/build made in a checkout.
 use std::env;
 use std::path::{Path, PathBuf};
 
-/// The system that the package's own library is made for.
+/// The target that the package's own library is built for.
 const TARGET: &str = "x86_64-unknown-linux-gnu";
 
 fn main() {
     println!("cargo:rerun-if-changed=build.rs");
     println!("cargo:rerun-if-env-changed=BUCKET_LIB_DIR");
-    // A page of documentation links nothing.
+    // A documentation build links nothing.
     if env::var_os("DOCS_RS").is_some() {
         return;
     }
@@ -23,7 +23,7 @@ fn main() {
     }
 }
 
-/// The folder whose libbucket.a is linked, or a sentence on what to do.
+/// Returns the folder whose libbucket.a is linked, or a message that says what to do.
 fn folder() -> Result<PathBuf, String> {
     if env::var("CARGO_CFG_TARGET_POINTER_WIDTH").as_deref() != Ok("64") {
         return Err("bucket is a library for 64 bits, and the target has others".to_string());

@@ -1,4 +1,4 @@
-// Prints an index of a text file: each word, and the numbers of the lines that have it.
+// Prints an index of a text file: each word, and the numbers of the lines that contain it.
 //
 //     c++ -std=c++17 -O2 -Ibindings index.cpp libbucket.a -o index && ./index FILE
 #include "bucket.hpp"
@@ -13,7 +13,7 @@
 
 using index_of_lines = bucket::map<std::string, std::vector<int>>;
 
-// Adds a line's words. They are looked up as parts of the line; only a new one is copied.
+// Adds a line's words. They are looked up as parts of the line; only a new word is copied.
 static void add_line(index_of_lines &index, std::string_view line, int number) {
     auto is_letter = [](char c) { return std::isalnum(static_cast<unsigned char>(c)) != 0; };
     for (auto from = line.begin(); (from = std::find_if(from, line.end(), is_letter)) != line.end();) {
@@ -43,7 +43,7 @@ int main(int argc, char **argv) {
         return 1;
     }
 
-    // The map has no order of its own. Its pairs stay where they are, so pointers to them can be sorted.
+    // The map has no order of its own. Its pairs keep their addresses, so pointers to them can be sorted.
     std::vector<const index_of_lines::value_type *> words;
     for (const auto &entry : index) {
         words.push_back(&entry);

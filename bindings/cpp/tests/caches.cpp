@@ -47,7 +47,7 @@ template <class K, class MakeKey> void evicts(MakeKey key_of) {
                 evicted++;
                 CHECK(gone.key() == key_of(gone.mapped().value()) && !recent.contains(gone.key()) && gone.mapped().value() != i);
             }
-            // A pair that is got in each round stays.
+            // A pair that is read by `get` in each round stays.
             counted *kept = recent.get(key_of(0));
             CHECK(kept && kept->value() == 0 && recent.contains(key_of(i)));
         }

@@ -1,4 +1,4 @@
-// What the tests stand on: CHECK, stories, and objects that are counted and can throw.
+// What the tests share: CHECK, stories, and objects that are counted and can throw.
 #ifndef CHECK_HPP
 #define CHECK_HPP
 
@@ -7,10 +7,10 @@
 #include <stdexcept>
 #include <string>
 
-// Counts a check, and prints its line if it doesn't hold.
+// Counts a check, and prints its line if it fails.
 #define CHECK(...) tests::check(static_cast<bool>(__VA_ARGS__), __FILE__, __LINE__, #__VA_ARGS__)
 
-// Checks that a statement throws such an exception.
+// Checks that a statement throws a given exception.
 #define CHECK_THROWS(type, ...) tests::check(tests::throws<type>([&] { __VA_ARGS__; }), __FILE__, __LINE__, #__VA_ARGS__)
 
 namespace tests {
@@ -33,13 +33,13 @@ template <class Thrown, class Call> bool throws(Call call) {
     }
 }
 
-// What is tested, as a sentence, and how.
+// What is tested, as a sentence, and the test.
 struct story {
     const char *says;
     void (*play)();
 };
 
-// Plays all stories; returns the status of the program.
+// Runs all stories; returns the status of the program.
 template <std::size_t N> int play(const story (&stories)[N]) {
     for (const story &each : stories) {
         long before = failed;
@@ -56,11 +56,11 @@ struct thrown : std::runtime_error {
     thrown() : std::runtime_error("thrown by a test") {}
 };
 
-// A value that is counted, knows its own address, and throws where it is told to. Once moved from it is -1.
+// A value that is counted, knows its own address, and throws when told to. After a move from it, it is -1.
 class counted {
   public:
     static inline long alive = 0;
-    // How many constructions, copies, moves and assignments pass before one throws; -1: none throws.
+    // How many constructions, copies, moves and assignments succeed before one throws; -1: none throws.
     static inline long until_throw = -1;
 
     counted(int value = 0) : value_(value), self_(this) { begin(); }
@@ -108,7 +108,7 @@ class counted {
     const counted *self_;
 };
 
-// A random number; the course is the same each time.
+// A random number; the sequence is the same each time.
 class chance {
   public:
     explicit chance(unsigned long long start) : state_(start) {}
@@ -125,7 +125,7 @@ class chance {
 
 enum class colour : signed char { red = -1, green, blue };
 
-// The i-th key of a type: all differ below 200, but for bool and colour.
+// The i-th key of a type: all differ below 200, except for bool and colour.
 template <class K> K key(int i) { return static_cast<K>(i); }
 template <> inline std::string key<std::string>(int i) {
     return i == 0 ? std::string() : std::string(i % 3 == 0 ? 40 : 3, 'k') + std::to_string(i);

@@ -127,7 +127,7 @@ void iterators_give_each_pair_once() {
         CHECK(std::all_of(squares.cbegin(), squares.cend(), [](auto &pair) { return pair.second == pair.first * pair.first; }));
         long sum = std::accumulate(fixed.begin(), fixed.end(), 0L, [](long so_far, auto &pair) { return so_far + pair.first; });
         CHECK(sum == static_cast<long>(count) * (count - 1) / 2);
-        // Forward: a copy goes on by itself.
+        // A forward iterator: a copy advances independently.
         auto it = squares.begin();
         bucket::map<int, int>::const_iterator other = it;
         for (; it != squares.end(); it++) {
@@ -178,7 +178,7 @@ void maps_are_made_and_moved() {
 template <class Map, class K, class V>
 constexpr bool has = std::is_same_v<typename Map::key_type, K> && std::is_same_v<typename Map::mapped_type, V>;
 
-// std::unordered_map deduces the same of each.
+// std::unordered_map deduces the same from each.
 void types_are_deduced() {
     std::vector<std::pair<std::string, int>> pairs{{"a", 1}, {"b", 2}, {"a", 3}};
     bucket::map ranged(pairs.begin(), pairs.end()), seeded(pairs.cbegin(), pairs.cend(), bucket::fixed_seed);
@@ -255,7 +255,7 @@ void ranges_are_erased() {
     }
 }
 
-// Changes the key of the pair `from`, and inserts it again; so does std's map.
+// Changes the key of the pair `from`, and inserts the pair again; so does std's map.
 template <class K> void change(bucket::map<K, int> &all, std::unordered_map<K, int> &beside, const K &from, const K &to) {
     int *where = all.find(from);
     auto node = all.extract(from);
@@ -293,7 +293,7 @@ void keys_are_changed_outside() {
     keys_of_a_type_are_changed<int>();
     keys_of_a_type_are_changed<std::uint8_t>();
     keys_of_a_type_are_changed<std::string>();
-    // A pair that a cache gave has a key that may be changed, too.
+    // A pair taken out of a cache also has a key that may be changed.
     bucket::cache<std::string, int> cache(64);
     static_cast<void>(cache.put("a", 1));
     auto gone = cache.put("a", 2);

@@ -1,4 +1,4 @@
-// 200,000 random calls on a map, a set and a cache, beside std's, with values that are counted.
+// 200,000 random calls on a map, a set and a cache, checked against std's, with values that are counted.
 #include "bucket.hpp"
 #include "check.hpp"
 
@@ -31,7 +31,7 @@ template <class K> void check_equal(const bucket::map<K, counted> &map, const st
     CHECK(seen == beside.size() && map.size() == seen && counted::alive == static_cast<long>(seen));
 }
 
-// Takes a pair out, may change its key, and may insert it again. Returns whether there was one.
+// Takes a pair out, may change its key, and may insert the pair again. Returns whether there was one.
 template <class K> bool take_out(chance &by, bucket::map<K, counted> &map, std::unordered_map<K, int> &beside, const K &key) {
     auto out = map.extract(key);
     auto other = beside.extract(key);
@@ -46,9 +46,9 @@ template <class K> bool take_out(chance &by, bucket::map<K, counted> &map, std::
     return is_there;
 }
 
-// One call of a map beside std's.
+// One call on a map, compared with std's.
 template <class K> void call_map(chance &by, bucket::map<K, counted> &map, std::unordered_map<K, int> &beside, int number) {
-    // Keys come from a window that moves, so that the map grows and shrinks.
+    // Keys come from a moving window, so that the map grows and shrinks.
     K key = key_at<K>(static_cast<int>(by.below(range)) / (number / 20000 % 2 ? 10 : 1));
     bool is_there = beside.count(key) > 0;
     switch (by.below(12)) {
@@ -127,7 +127,7 @@ template <class K> void set_beside_std() {
     }
 }
 
-// A cache holds what std's map says of the keys that it hasn't handed out.
+// For the keys that it hasn't returned, a cache holds what std's map does.
 template <class K> void cache_beside_std() {
     chance by(13);
     bucket::cache<K, counted> cache(1000);

@@ -1,5 +1,5 @@
-// Refuses each allocation in turn, of operator new and of malloc. The call throws std::bad_alloc, or says so; nothing has changed, what was
-// given is still there, and nothing leaks. Link with -Wl,--wrap=malloc,--wrap=realloc,--wrap=free.
+// Fails each allocation in turn, of operator new and of malloc. The call throws std::bad_alloc, or reports it; nothing has changed, the
+// arguments are still there, and nothing leaks. Link with -Wl,--wrap=malloc,--wrap=realloc,--wrap=free.
 #include "bucket.hpp"
 #include "check.hpp"
 
@@ -13,11 +13,11 @@ using tests::key;
 
 namespace {
 
-// How many allocations are granted before one is refused; -1: all are.
+// How many allocations are granted before one fails; -1: all are.
 long granted = -1;
 long held = 0;
 long asked = 0;
-// How many are granted before one alone is refused; -1: none is.
+// How many are granted before exactly one fails; -1: none fails.
 long before_one = -1;
 
 bool may() noexcept {
@@ -73,8 +73,8 @@ struct grants_all {
     ~grants_all() { granted = -1; }
 };
 
-// Makes a call with the first allocation refused, then the second, until it needs no more, each time on what `prepare` returns. `call`
-// returns whether memory sufficed, or throws std::bad_alloc; `stays` checks that nothing has changed.
+// Makes a call with the first allocation failing, then the second, until the call needs no more, each time on what `prepare` returns.
+// `call` returns whether memory sufficed, or throws std::bad_alloc; `stays` checks that nothing has changed.
 template <class Prepare, class Call, class Stays> void refuse_each(Prepare prepare, Call call, Stays stays) {
     for (long at = 0;; at++) {
         long before = held;
@@ -104,7 +104,7 @@ using owned = std::unique_ptr<std::string>;
 
 owned text(int i) { return std::make_unique<std::string>(std::to_string(i)); }
 
-// A map of some pairs, and what a call is given.
+// A map with some pairs, and the arguments of a call.
 template <class K> struct given_map {
     bucket::map<K, owned> map;
     K given = key<K>(150);
@@ -134,7 +134,7 @@ template <class K> void check_stays(const given_map<K> &subject, int pairs) {
 }
 
 template <class K, class Call> void refuse_each_on_maps(Call call) {
-    // An insertion behind so many pairs opens the handle, makes the first array, a block, a greater array.
+    // An insertion after that many pairs opens the handle, or allocates the first array, a block, or a larger array.
     for (int pairs : {0, 1, 20, 52, 53, 63, 64, 65, 104, 128}) {
         refuse_each([=] { return prepare<K>(pairs); }, call, [=](auto &subject) { check_stays(subject, pairs); });
     }
@@ -162,7 +162,7 @@ template <class K> void each_insertion() {
     refuse_each_on_maps<K>([](given &to) { return to.map.reserve(10000), true; });
 }
 
-// A pair that was taken out stays with the caller, with the key that it has by now.
+// A pair that was taken out stays with the caller, with the key that it has by then.
 template <class K> void a_node() {
     struct two {
         bucket::map<K, owned> to;
@@ -189,7 +189,7 @@ void insertions_of_nodes() {
     a_node<std::string>();
 }
 
-// A map or a set that is made of a range, or with room.
+// A map or a set that is made from a range, or with room.
 template <class K> void a_constructor() {
     auto made = [] {
         std::vector<std::pair<K, std::string>> pairs;
@@ -363,15 +363,15 @@ template <class K> void a_cache() {
     }
 }
 
-// How many allocations a call asks for.
+// How many allocations a call makes.
 template <class Call> long asked_by(Call call) {
     long before = asked;
     call();
     return asked - before;
 }
 
-// Pairs come in the order of the slots. By one seed they'd meet in the first buckets of a table
-// that grows, whose chains are allocations.
+// Pairs come in the order of the slots. With the same seed they would collide in the first buckets of a growing table, whose overflow
+// chains are allocations.
 template <class K> void a_map_of_a_map(std::optional<bucket::seed> by) {
     using map = bucket::map<K, int>;
     map all(0, by);
@@ -427,7 +427,7 @@ void copies_of_many() {
     }
 }
 
-// Room that can't be had for a range, which may have a key many times, is done without.
+// A range may have a key many times, so failing to make room for it is not an error.
 void a_range_finds_its_room() {
     const std::vector<std::pair<int, int>> same(100, {7, 7});
     long without = 0;

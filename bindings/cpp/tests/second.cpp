@@ -1,4 +1,4 @@
-// A second unit that includes the header: the program links, and both share what is inline.
+// A second translation unit that includes the header: the program links, and both share the inline functions.
 #include "bucket.hpp"
 
 std::size_t second_unit();

@@ -84,7 +84,7 @@ template <class K> void made_and_moved() {
     CHECK(copy.empty());
 }
 
-// std::unordered_set deduces the same of each.
+// std::unordered_set deduces the same from each.
 void types_are_deduced() {
     std::vector<std::string> texts{"a", "b", "a"};
     bucket::set ranged(texts.begin(), texts.end()), listed{std::string("a"), std::string("b")};

@@ -1,4 +1,4 @@
-// Constructors, moves, assignments and predicates that throw, and values that call their container back.
+// Constructors, moves, assignments and predicates that throw, and values that call back into their container.
 #include "bucket.hpp"
 #include "check.hpp"
 
@@ -22,7 +22,7 @@ template <class K> std::vector<std::pair<int, K>> contents(const bucket::map<K, 
     return all;
 }
 
-// Makes a call again and again, where the first construction throws, then the second, until none does. Nothing has changed each time.
+// Makes a call repeatedly, with the first construction throwing, then the second, until none does. Nothing has changed each time.
 template <class K, class Call> void throws_each_time(Call call) {
     for (long at = 0;; at++) {
         CHECK(counted::alive == 0);
@@ -103,7 +103,7 @@ void a_put_that_throws_evicts_nothing() {
         counted::until_throw = -1;
     }
     CHECK(cache.size() == before && counted::alive == static_cast<long>(before));
-    // The evicted pair is still owned where making an optional of it throws.
+    // The evicted pair is still owned if making an optional of it throws.
     for (int i = 100; i < 200; i++) {
         auto gone = cache.put(i, i);
         counted::until_throw = 0;
@@ -128,7 +128,7 @@ void a_predicate_that_throws_erases_nothing() {
     CHECK(all.erase_if([](auto &pair) { return pair.first < 250; }) == 250 && contents(all).size() == 250);
 }
 
-// Calls back as it is made, and as it is destroyed.
+// Calls back when it is constructed, and when it is destroyed.
 struct caller {
     std::function<void()> on_end;
     caller() = default;
@@ -167,7 +167,7 @@ void a_destructor_may_call_its_container() {
     CHECK(all.erase_if([](auto &pair) { return pair.first < 50; }) == 49 && ended == 50 && all.size() == 50);
     all.clear();
     CHECK(ended == 100 && all.empty());
-    // A destructor that inserts again, while all are cleared.
+    // A destructor that inserts again during a clear.
     all.try_emplace(1, nullptr, [&] { all.try_emplace(2); });
     all.clear();
     CHECK(all.size() == 1 && all.contains(2));
@@ -232,10 +232,10 @@ struct calling : counted {
 
 template <class K> using calling_map = bucket::map<K, calling>;
 
-// An insertion of a value into a map. `inside` is called by the constructor of the pair; empty: nothing is.
+// An insertion of a value into a map. The constructor of the pair calls `inside`, unless it is empty.
 template <class K> using insertion = void (*)(calling_map<K> &, const K &, int, std::function<void()> inside);
 
-// Those of a key and a value.
+// Insertions of a key and a value.
 template <class K> std::vector<insertion<K>> insertions_of_two() {
     return {
         [](auto &to, auto &k, int v, auto inside) { calling::next = inside, to.try_emplace(k, v); },
@@ -254,7 +254,7 @@ template <class K> std::vector<insertion<K>> insertions_of_two() {
     };
 }
 
-// Those of a whole pair.
+// Insertions of a whole pair.
 template <class K> std::vector<insertion<K>> insertions_of_pairs() {
     using pair = std::pair<const K, calling>;
     return {
@@ -297,7 +297,7 @@ template <class K> std::vector<insertion<K>> insertions_of_pairs() {
     };
 }
 
-// Those that call nothing as the value is made.
+// Those that call nothing while the value is made.
 template <class K> std::vector<insertion<K>> insertions_that_call_nothing() {
     return {
         [](auto &to, auto &k, int v, auto) { to[k] = v; },
@@ -316,7 +316,7 @@ template <class K> std::vector<insertion<K>> insertions_that_call_nothing() {
     };
 }
 
-// Makes an outer insertion of 1, whose constructor makes an inner one of 2 of the same key: the inner pair stays.
+// Makes an outer insertion of 1, whose constructor makes an inner one of 2 with the same key: the inner pair stays.
 template <class K> void nests(insertion<K> outer, insertion<K> inner, int others, bool throws) {
     calling_map<K> all;
     for (int i = 0; i < others; i++) {
@@ -371,7 +371,7 @@ void results_where_a_constructor_inserts_its_own_key() {
     auto [where, is_new] = all.try_emplace("k", 1);
     CHECK(!is_new && where == inner && all.at("k").value() == 5 && all.size() == 1);
 
-    // Three deep: the innermost pair stays.
+    // Three levels deep: the innermost pair stays.
     all.clear();
     calling::next = [&] {
         calling::next = [&] { CHECK(all.emplace(std::make_pair("k", 3)).second && all.at("k").value() == 3); };
@@ -379,7 +379,7 @@ void results_where_a_constructor_inserts_its_own_key() {
     };
     CHECK(!all.try_emplace("k", 1).second && all.at("k").value() == 3 && all.size() == 1);
 
-    // V() calls; what is assigned goes to the pair that stays.
+    // V() calls back; the assigned value goes to the pair that stays.
     all.clear();
     calling::next = [&] { all.emplace(std::make_pair("k", 2)); };
     CHECK(all["k"].value() == 2 && (all["k"] = 7).value() == 7 && all.size() == 1);
@@ -399,7 +399,7 @@ void a_constructor_may_take_its_key_away() {
         CHECK(all.erase("k") == 1);
     };
     CHECK(all.try_emplace("k", 1).second && all.at("k").value() == 1 && all.size() == 1);
-    // It moves all away.
+    // It moves everything away.
     calling::next = [&] { other = std::move(all); };
     CHECK(all.try_emplace("l", 1).second && all.size() == 1 && other.size() == 1 && !other.contains("l"));
     CHECK(other.insert(all.extract("l")).inserted && other.at("l").value() == 1 && other.size() == 2);

@@ -1,4 +1,4 @@
-"""A decorator that remembers a function's answers, and at most so many: `functools.lru_cache` over bucket.Cache.
+"""A decorator that caches a bounded number of a function's results: `functools.lru_cache` over bucket.Cache.
 
     @memo(maxsize=1000)
     def collatz(number): ..
@@ -40,7 +40,7 @@ def memo(maxsize=128):
 
 @memo(maxsize=10_000)
 def steps(number):
-    """How many steps it takes from a number to 1, halving an even one, and else by three times it plus one."""
+    """The number of steps from a number to 1: an even one is halved, another one is tripled, plus one."""
     if number == 1:
         return 0
     return 1 + steps(number // 2 if number % 2 == 0 else 3 * number + 1)

@@ -1,23 +1,23 @@
-"""Map, Set and Cache: a dict, a set and a bounded cache over hash tables that are proved.
+"""Map, Set and Cache: a dict, a set and a bounded cache over proved hash tables.
 
     import bucket
 
     ages = bucket.Map({"Ann": 30}, Bob=27)
-    ages["Cid"] = 41  # MemoryError if there is no memory, and nothing has changed
+    ages["Cid"] = 41  # MemoryError if allocation fails: nothing has changed
     print(len(ages), ages["Ann"], ages | {"Dee": 5})
 
-Keys are ints from -2**63 up to 2**64 - 1, strs and bytes, mixed at will; values are any objects. A bool is
-the int that it equals. A class below int, str or bytes counts as its base, unless it has its own `__eq__` or
-`__hash__`. Another key is absent for a look-up or a removal; where it is put, it raises TypeError, or
+Keys are ints from -2**63 to 2**64 - 1, strs and bytes, and may be mixed; values are any objects. A bool is
+the int that it equals. A subclass of int, str or bytes counts as its base, unless it has its own `__eq__` or
+`__hash__`. Any other key is absent for a look-up or a removal; inserting it raises TypeError, or
 OverflowError if it is an int.
 
-A Map has all calls of a dict, and a Set all of a set, but for the order: it is that of the slots, and
-another one after a pair is put or removed. So nothing is reversed. A Cache has at most `maxsize` pairs: past
-that the one goes that was used least recently of all.
+A Map has all methods of a dict, and a Set all of a set, except for the order: it is that of the slots, and
+changes when a pair is put or removed. So nothing can be reversed. A Cache has at most `maxsize` pairs: beyond
+that it evicts the least recently used of all pairs.
 
-Keys hash by a random seed, which keys that an enemy chooses need, another one in each collection; or
-by PYTHONHASHSEED: see `seeded`. Of a str, bytes and an int from 2**63 on it is Python's own hash that
-is hashed so.
+Keys are hashed with a random seed, a different one in each collection, as is needed if an attacker chooses
+the keys; or with PYTHONHASHSEED: see `seeded`. For a str, bytes and an int from 2**63 on, the hash is
+computed from Python's own hash.
 
 Threads may share a collection as they share a dict: a call keeps the interpreter's lock.
 """

@@ -1,10 +1,10 @@
-/* The operations of sets: methods that take any iterables, and operators that take sets. What an iterable has that is no key is in
- * no set; a call that would have to put it raises TypeError. */
+/* The operations of sets: methods that take any iterables, and operators that take sets. An item that is not a key is in no set;
+ * a call that would have to insert it raises TypeError. */
 #include "collection.h"
 
 typedef int (*KeyCall)(Table *set, PyObject *key, Table *made);
 
-/* Makes a call for each key of an iterable. 0 or -1. */
+/* Makes a call for each key of an iterable. Returns 0 or -1. */
 static int each_key(PyObject *keys, KeyCall call, Table *set, Table *made) {
     PyObject *iterator = PyObject_GetIter(keys), *key;
     if (iterator == NULL) {
@@ -44,7 +44,7 @@ static int toggle(Table *set, PyObject *key, Table *made) {
     return is_there == 0 ? table_put(set, key, NULL) : is_there < 0 ? -1 : 0;
 }
 
-/* Puts the set's own key to the new set, if it has one. */
+/* Puts the set's own key into the new set, if it has one. */
 static int keep(Table *set, PyObject *key, Table *made) {
     Node *node;
     int is_there = table_look(set, key, false, &node);
@@ -92,7 +92,7 @@ static Table *set_of(const Table *set, PyObject *keys) {
     return made == NULL ? NULL : finished(made, set_add_all(made, keys));
 }
 
-/* Whether `keys` is one of sets and dicts that has more keys than a set. */
+/* Whether `keys` is a set or a dict with more keys than a set. */
 static bool is_larger(const Table *set, PyObject *keys) {
     if (!is_set_like(set->state, keys) && !PyDict_CheckExact(keys)) {
         return false;
@@ -154,7 +154,7 @@ static Table *without_keys(Table *set, PyObject *keys) {
     return made == NULL ? NULL : finished(made, remove_all(made, others));
 }
 
-/* The keys that are in one alone. */
+/* The keys in exactly one of the two. */
 static Table *keys_of_one(Table *set, PyObject *keys) {
     Table *made = set_of(set, keys);
     if (made == NULL) {
@@ -169,7 +169,7 @@ static Table *keys_of_one(Table *set, PyObject *keys) {
     return finished(made, code);
 }
 
-/* The set takes what a new one holds. */
+/* Moves the contents of a new set into the set. */
 static int take_over(Table *set, Table *made) {
     if (made == NULL) {
         return -1;
@@ -187,7 +187,7 @@ static PyObject *none_or_error(int code) {
 
 typedef Table *(*NewSet)(Table *set, PyObject *keys);
 
-/* The set of a call with each of the others in turn; a copy, if there is none. */
+/* The set that results from a call with each of the others in turn; a copy if there are none. */
 static Table *with_each(PyObject *self, PyObject *others, NewSet call) {
     Table *made = PyTuple_Size(others) > 0 ? (Table *)Py_NewRef(self) : set_of((Table *)self, self);
     for (Py_ssize_t at = 0; made != NULL && at < PyTuple_Size(others); at++) {
@@ -243,7 +243,7 @@ PyObject *set_symmetric_difference_update(PyObject *self, PyObject *other) {
 
 /* ---- Operators ---- */
 
-/* An operator whose left side is a set or a frozenset gives one of these, else a Set. */
+/* An operator whose left side is a set or a frozenset returns one of these, else a Set. */
 static PyObject *operate(PyObject *left, PyObject *right, NewSet call, const char *name) {
     State *state = state_of(left, right);
     if (state == NULL || !is_set_like(state, right)) {

@@ -1,6 +1,7 @@
-/* The type Cache: a mapping of at most `maxsize` pairs, from which the pair goes that was touched longest ago.
+/* The type Cache: a mapping of at most `maxsize` pairs, which evicts the pair that was touched longest ago.
  *
- * Its tables are those of a map. Beside them all nodes stand in a ring by their last touch, which says which pair goes. */
+ * Its tables are those of a map. In addition all nodes are in a ring ordered by their last touch, which determines the pair to
+ * evict. */
 #include "collection.h"
 
 /* ---- The order of use ---- */
@@ -30,7 +31,7 @@ int cache_touch(Cache *cache, const Key *key, Node **node) {
     return is_there;
 }
 
-/* The new pair comes before the other one goes: where memory is refused for it, none has gone. */
+/* The new pair is inserted before the other one is evicted: if its allocation fails, none has been evicted. */
 int cache_put(Cache *cache, PyObject *key, PyObject *value, Node **gone) {
     Table *table = &cache->table;
     Key at;
@@ -121,8 +122,8 @@ static PyObject *cache_put_call(PyObject *self, PyObject *const *args, Py_ssize_
     return pair;
 }
 
-/* _cache_of(type, maxsize, words=0, hashed=0): an empty cache of a type below Cache, without a call of its `__init__`, with room
- * for so many pairs of each kind, if there is memory. Older pickles have no such numbers. */
+/* _cache_of(type, maxsize, words=0, hashed=0): an empty cache of a subclass of Cache, without a call of its `__init__`, with
+ * room for that many pairs of each kind, if memory allows. Older pickles have no such numbers. */
 PyObject *cache_made(PyObject *module, PyObject *args) {
     PyTypeObject *type;
     Py_ssize_t maxsize, words = 0, hashed = 0;

@@ -1,4 +1,4 @@
-/* Iterators over keys, values or pairs. They raise RuntimeError once a pair was added or removed. */
+/* Iterators over keys, values or pairs. They raise RuntimeError after a pair was added or removed. */
 #include "collection.h"
 
 #include <string.h>
@@ -86,7 +86,7 @@ static PyObject *iterator_length_hint(PyObject *self, PyObject *unused) {
     return PyLong_FromSize_t(table_len(iterator->table) - iterator->given);
 }
 
-/* A copy of what an iterator has yet to give; its own `all`. 0 or -1. */
+/* Copies the nodes that an iterator has yet to return into its own `all`. Returns 0 or -1. */
 static int rest_of(const Iterator *iterator, Reading *rest) {
     memcpy(rest, &iterator->reading, sizeof *rest);
     if (rest->all != NULL) {
@@ -101,7 +101,7 @@ static int rest_of(const Iterator *iterator, Reading *rest) {
     return 0;
 }
 
-/* The list of what is left; the iterator stays where it stands. */
+/* The list of the remaining items; the iterator doesn't advance. */
 static PyObject *rest_list(Iterator *iterator) {
     PyObject *list = PyList_New(0);
     Reading rest;

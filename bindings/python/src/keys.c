@@ -1,14 +1,14 @@
-/* Keys: how an int, a str or bytes stands in a table.
+/* Keys: how an int, a str or bytes is stored in a table.
  *
- * An int from -2^63 to 2^63 - 1 is its own word, in two's complement. The word of another key is Python's hash of it, which a str
- * and bytes keep once it is made. Keys of one hash, as "a" and b"a", are told apart by their types and by what they hold, and no
- * code of others' runs for that. So no two keys are one but those that a dict takes for one. */
+ * An int from -2^63 to 2^63 - 1 is its own word, in two's complement. The word of another key is its Python hash, which a str
+ * and bytes cache. Keys with equal hashes, such as "a" and b"a", are distinguished by their types and contents, without running
+ * foreign code. So two keys are equal exactly if a dict considers them equal. */
 #include "collection.h"
 
 #include <string.h>
 
 static KeyCode key_by_hash(Key *key, PyObject *object, PyTypeObject *base) {
-    /* An object of a class below hashes as its base does, whatever the class makes of it. */
+    /* An object of a subclass hashes as its base does, whatever the subclass defines. */
     hashfunc hash = Py_TYPE(object) == base ? PyObject_Hash : (hashfunc)PyType_GetSlot(base, Py_tp_hash);
     Py_hash_t word = hash(object);
     *key = (Key){.kind = HASHED, .word = (uint64_t)word, .object = object, .base = base};
@@ -39,7 +39,7 @@ static KeyCode key_of_base(Key *key, PyObject *object, PyTypeObject *base) {
     return base == &PyLong_Type ? key_of_int(key, object) : key_by_hash(key, object, base);
 }
 
-/* Whether two types have one object as an attribute: 1, 0, -1. */
+/* Whether two types share an object as an attribute: 1, 0, -1. */
 static int have_same(PyTypeObject *type, PyTypeObject *base, const char *name) {
     PyObject *own = PyObject_GetAttrString((PyObject *)type, name);
     PyObject *inherited = own == NULL ? NULL : PyObject_GetAttrString((PyObject *)base, name);
@@ -49,7 +49,7 @@ static int have_same(PyTypeObject *type, PyTypeObject *base, const char *name) {
     return is_same;
 }
 
-/* Whether objects of a type below int, str or bytes compare and hash as those do: 1, 0, -1. */
+/* Whether objects of a subclass of int, str or bytes compare and hash as those do: 1, 0, -1. */
 static int is_plain(PyTypeObject *type, PyTypeObject *base) {
     if (PyType_GetSlot(type, Py_tp_richcompare) == PyType_GetSlot(base, Py_tp_richcompare) &&
         PyType_GetSlot(type, Py_tp_hash) == PyType_GetSlot(base, Py_tp_hash)) {
@@ -59,7 +59,7 @@ static int is_plain(PyTypeObject *type, PyTypeObject *base) {
     return is_same == 1 ? have_same(type, base, "__hash__") : is_same;
 }
 
-/* The one of int, str and bytes that an object's type is below, or NULL. */
+/* The one of int, str and bytes of which an object's type is a subclass, or NULL. */
 static PyTypeObject *base_of(PyObject *object) {
     return PyLong_Check(object) ? &PyLong_Type
         : PyUnicode_Check(object) ? &PyUnicode_Type
@@ -88,7 +88,7 @@ bool key_equals(const Key *key, PyObject *object) {
     if (Py_TYPE(object) != key->base && base_of(object) != key->base) {
         return false;
     }
-    /* None of these calls fails: a str that was hashed is whole, and an int that is a key has 64 bits. */
+    /* None of these calls fails: a str that was hashed is ready, and an int that is a key has 64 bits. */
     if (key->base == &PyUnicode_Type) {
         return PyUnicode_Compare(key->object, object) == 0;
     }
@@ -121,7 +121,7 @@ int key_refused(PyObject *object) {
 }
 
 void key_missing(PyObject *object) {
-    /* A tuple by itself would be the exception's arguments. */
+    /* A bare tuple would become the exception's arguments. */
     PyObject *arguments = PyTuple_Pack(1, object);
     if (arguments != NULL) {
         PyErr_SetObject(PyExc_KeyError, arguments);

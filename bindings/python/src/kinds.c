@@ -1,4 +1,4 @@
-/* What maps, sets and caches have in common as Python objects. */
+/* What maps, sets and caches share as Python objects. */
 #include "collection.h"
 
 extern PyModuleDef bucket_module;
@@ -64,7 +64,7 @@ Table *table_new(State *state, PyTypeObject *type) {
     return table;
 }
 
-/* As of dict and set, what `__init__` takes is no matter of `__new__`. */
+/* As with dict and set, `__new__` ignores the arguments of `__init__`. */
 PyObject *collection_new(PyTypeObject *type, PyObject *args, PyObject *kwargs) {
     (void)args;
     (void)kwargs;
@@ -115,7 +115,7 @@ PyObject *collection_iter(PyObject *self) {
     return iterator_new((Table *)self, GIVES_KEYS);
 }
 
-/* An estimate: a slot of the library takes some 18 bytes. */
+/* An estimate: a slot of the library takes about 18 bytes. */
 PyObject *collection_sizeof(PyObject *self, PyObject *unused) {
     enum { SLOT_BYTES = 18 };
     Table *table = (Table *)self;
@@ -131,7 +131,7 @@ PyObject *collection_sizeof(PyObject *self, PyObject *unused) {
 }
 
 PyObject *collection_attributes(PyObject *self) {
-    /* From Python 3.11 on each object has __getstate__. */
+    /* Since Python 3.11 each object has __getstate__. */
     PyObject *get = PyObject_GetAttrString(self, "__getstate__");
     if (get != NULL) {
         PyObject *attributes = PyObject_CallNoArgs(get);

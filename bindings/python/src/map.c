@@ -13,7 +13,7 @@ static PyObject *map_clear(PyObject *self, PyObject *unused) {
     Py_RETURN_NONE;
 }
 
-/* A Map with the pairs of one or two. */
+/* A Map with the pairs of one or two collections. */
 static PyObject *map_of(State *state, PyObject *first, PyObject *second) {
     Table *made = table_new(state, state->map);
     if (made == NULL) {
@@ -91,8 +91,7 @@ static PyObject *map_repr(PyObject *self) {
     return shown;
 }
 
-/* A pickle has the pairs and the attributes, and how many keys of each kind there are, for room.
- * It has no seed. */
+/* A pickle stores the pairs, the attributes, and the number of keys of each kind, for making room. It doesn't store the seed. */
 static PyObject *map_reduce(PyObject *self, PyObject *unused) {
     Table *table = (Table *)self;
     (void)unused;
@@ -107,8 +106,8 @@ static PyObject *map_reduce(PyObject *self, PyObject *unused) {
                          attributes, Py_None, pairs);
 }
 
-/* _map_of(type, words, hashed): an empty map of a type below Map, without a call of its `__init__`,
- * with room for so many pairs of each kind, if there is memory. */
+/* _map_of(type, words, hashed): an empty map of a subclass of Map, without a call of its `__init__`, with room for that many
+ * pairs of each kind, if memory allows. */
 PyObject *map_made(PyObject *module, PyObject *args) {
     PyTypeObject *type;
     Py_ssize_t words, hashed;

@@ -1,4 +1,4 @@
-/* Pairs from elsewhere: from a dict, a collection, any mapping, or an iterable of pairs. */
+/* Inserts pairs from a dict, a collection, any mapping, or an iterable of pairs. */
 #include "collection.h"
 
 bool has_pairs(const State *state, PyObject *object) {
@@ -25,7 +25,7 @@ static int merge_dict(Table *table, PyObject *dict) {
     return 0;
 }
 
-/* The pairs of another collection, whose pairs aren't touched. */
+/* Inserts the pairs of another collection, without touching them there. */
 static int merge_table(Table *table, Table *other) {
     Reading reading;
     Node *node;
@@ -43,7 +43,7 @@ static int merge_table(Table *table, Table *other) {
     return code == 0 && PyErr_Occurred() ? -1 : code;
 }
 
-/* A mapping by its keys() and []. */
+/* Inserts the pairs of a mapping, read by its keys() and []. */
 static int merge_mapping(Table *table, PyObject *mapping, PyObject *get_keys) {
     PyObject *keys = PyObject_CallNoArgs(get_keys);
     PyObject *iterator = keys == NULL ? NULL : PyObject_GetIter(keys);

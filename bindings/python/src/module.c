@@ -37,9 +37,8 @@ static int seed_by_chance(State *state) {
     return code;
 }
 
-/* Keys come out of a table in the order of their hashes. In another one of the same seed they'd all
- * meet in its first buckets, since it's small as the first ones come. So seeds differ, but for one
- * that was given. */
+/* Keys are read from a table in the order of their hashes. Inserted into another table with the same seed, they would all
+ * collide in its first buckets, since it is small when the first ones are inserted. So seeds differ, unless one was given. */
 bucket_seed next_seed(State *state) {
     bucket_seed seed = state->seed;
     state->seed.key0 += state->is_drawn;
@@ -52,7 +51,7 @@ static PyObject *seeded(PyObject *module, PyObject *seed) {
     return code < 0 ? NULL : Py_NewRef(Py_None);
 }
 
-/* How many pairs all collections have, those that are to be let go with them. */
+/* How many pairs all collections have, including those still to be released. */
 static PyObject *count_nodes(PyObject *module, PyObject *unused) {
     (void)unused;
     return PyLong_FromSsize_t(state_of_module(module)->nodes);
@@ -77,7 +76,7 @@ static PyMethodDef functions[] = {
 
 /* ---- The module ---- */
 
-/* Makes a type, which the state holds; a public one is an attribute too. */
+/* Makes a type, which the state holds; a public one is also an attribute of the module. */
 static int make_type(PyObject *module, PyType_Spec *spec, PyTypeObject **type, bool is_public) {
     *type = (PyTypeObject *)PyType_FromModuleAndSpec(module, spec, NULL);
     return *type == NULL ? -1 : is_public ? PyModule_AddType(module, *type) : 0;
@@ -90,7 +89,7 @@ static int make_types(PyObject *module, State *state) {
         make_type(module, &iterator_spec, &state->iterator, false) < 0) {
         return -1;
     }
-    /* Else a class below these that has a __getitem__ would be reversed by it. The order means nothing. */
+    /* Otherwise a subclass with a __getitem__ could be reversed by it. The order is meaningless. */
     if (PyObject_SetAttrString((PyObject *)state->map, "__reversed__", Py_None) < 0 ||
         PyObject_SetAttrString((PyObject *)state->cache, "__reversed__", Py_None) < 0) {
         return -1;

@@ -1,4 +1,4 @@
-/* What maps and caches have in common: look-ups and removals. A look-up of a cache touches the pair, and counts. */
+/* What maps and caches share: look-ups and removals. A look-up in a cache touches the pair, and is counted. */
 #include "collection.h"
 
 static int takes(Py_ssize_t count, Py_ssize_t least, Py_ssize_t most, const char *name) {
@@ -11,7 +11,7 @@ static int takes(Py_ssize_t count, Py_ssize_t least, Py_ssize_t most, const char
 
 /* The pair as a tuple. */
 PyObject *pair_of(PyObject *key, PyObject *value) {
-    /* A tuple that is made may let the garbage collector run, and the pair go. */
+    /* Making a tuple may run the garbage collector, which may remove the pair. */
     Py_INCREF(key);
     Py_INCREF(value);
     PyObject *pair = PyTuple_Pack(2, key, value);
@@ -20,7 +20,7 @@ PyObject *pair_of(PyObject *key, PyObject *value) {
     return pair;
 }
 
-/* What the type below a map or a cache does with a key that is absent: its `__missing__`, or KeyError. */
+/* What a subclass of a map or a cache does with an absent key: its `__missing__`, or KeyError. */
 static PyObject *missing(PyObject *self, PyObject *key) {
     State *state = ((Table *)self)->state;
     PyTypeObject *type = Py_TYPE(self);
@@ -117,7 +117,7 @@ PyObject *pairs_popitem(PyObject *self, PyObject *unused) {
     Table *table = (Table *)self;
     Node *node;
     (void)unused;
-    /* The tuple comes first: if there is no memory for it, no pair is lost. */
+    /* The tuple is made first: if its allocation fails, no pair is lost. */
     PyObject *pair = PyTuple_New(2);
     if (pair == NULL) {
         return NULL;
@@ -168,7 +168,7 @@ PyObject *pairs_items(PyObject *self, PyObject *unused) {
 
 /* ---- Comparisons ---- */
 
-/* The value of another collection, or of a dict, at a key: 1 and a new reference, 0, -1. No pair is touched. */
+/* The value of a key in another collection or in a dict: 1 and a new reference, 0, -1. No pair is touched. */
 static int value_in(PyObject *other, PyObject *key, PyObject **value) {
     if (!PyDict_Check(other)) {
         Node *node;

@@ -1,4 +1,4 @@
-/* Readings of all nodes, in pieces of 64 that go on from a place. */
+/* Reads all nodes, in pieces of 64 that continue from a place. */
 #include "collection.h"
 
 void reading_begin(Reading *reading, Table *table) {
@@ -16,7 +16,7 @@ int reading_begin_shared(Reading *reading, Table *table) {
     if (!table->is_cache || table_len(table) == 0) {
         return 0;
     }
-    /* A look-up in a cache moves pairs. So all nodes are copied out, and a node lives as long as no pair goes. */
+    /* A look-up in a cache moves pairs. So all nodes are copied out, and a node lives as long as no pair is removed. */
     reading->all = PyMem_Malloc(table_len(table) * sizeof *reading->all);
     if (reading->all == NULL) {
         PyErr_NoMemory();

@@ -1,16 +1,15 @@
-/* Room for many pairs at once, before they come from an object that tells how many they are.
+/* Makes room for many pairs at once, before they are read from an object that reports how many there are.
  *
- * Keys of another collection come in the order of its slots. If both hash by one seed, that is the
- * order of their hashes: in a table that grows as it is filled, all would meet in its first
- * buckets. */
+ * Keys of another collection come in the order of its slots. If both hash with the same seed, that is the order of their hashes:
+ * in a table that grows while it is filled, all would collide in its first buckets. */
 #include "collection.h"
 
-/* So many pairs find room without being told of. */
+/* For up to this many pairs no room is made in advance. */
 enum { FEW = 32 };
 
 /* ---- How many come ---- */
 
-/* What is no key, or is an int from 2^63 on, is counted wrong: room is made in vain. */
+/* An item that is not a key, or is an int from 2^63 on, is miscounted: too much room is made. */
 static void count_key(Coming *coming, PyObject *key) {
     coming->lens[PyLong_Check(key) ? WORDS : HASHED]++;
 }
@@ -56,7 +55,7 @@ static void count_set(Coming *coming, PyObject *set) {
     PyErr_Clear();
 }
 
-/* The collection whose keys an object gives, or NULL. */
+/* The collection whose keys an object yields, or NULL. */
 static const Table *table_behind(const State *state, PyObject *object, bool are_pairs) {
     if (Py_TYPE(object) == (are_pairs ? state->items : state->keys)) {
         return table_of_view(object);
@@ -72,7 +71,7 @@ Coming coming_of(const State *state, PyObject *object, bool are_pairs) {
     if (table != NULL) {
         coming.lens[WORDS] = table->lens[WORDS];
         coming.lens[HASHED] = table->lens[HASHED];
-        /* A type below another gives its keys in its own way. */
+        /* A subclass may yield its keys in its own way. */
         PyTypeObject *type = Py_TYPE(object);
         coming.is_sure = type == state->map || type == state->set || type == state->cache;
     } else if (PyDict_Check(object)) {
@@ -102,13 +101,13 @@ static uint32_t reserve(Table *table, int kind, size_t additional) {
     return code;
 }
 
-/* How many of so many pairs a collection may have at once. */
+/* How many of that many pairs a collection may have at once. */
 static size_t most_of(const Table *table, size_t coming) {
     size_t most = table->is_cache ? ((const Cache *)table)->maxsize : coming;
     return coming < most ? coming : most;
 }
 
-/* The array is another one then, in which a walk would lose its place. So the version is too. */
+/* The array is then a new one, in which an iteration would lose its place. So the version changes too. */
 int table_make_room(Table *table, Coming *coming) {
     for (int kind = WORDS; kind < KINDS; kind++) {
         size_t len = table->lens[kind], all = most_of(table, coming->lens[kind]);

@@ -115,7 +115,7 @@ static PyObject *set_reduce(PyObject *self, PyObject *unused) {
     return Py_BuildValue("O(ON)N", ((Table *)self)->state->make_set, Py_TYPE(self), keys, attributes);
 }
 
-/* _set_of(type, keys): a set of a type below Set, without a call of its `__init__`. */
+/* _set_of(type, keys): a set of a subclass of Set, without a call of its `__init__`. */
 PyObject *set_made(PyObject *module, PyObject *args) {
     PyTypeObject *type;
     PyObject *keys;

@@ -30,7 +30,7 @@ static void drop_each(State *state, Node *nodes) {
     }
 }
 
-/* A collection in a collection in a collection: from some depth on the outermost call lets the objects go. So the stack ends. */
+/* For deeply nested collections: from some depth on, the outermost call releases the objects, which bounds the stack. */
 void nodes_drop(State *state, Node *nodes) {
     if (nodes == NULL) {
         return;
@@ -65,7 +65,7 @@ int code_refused(uint32_t code) {
     return -1;
 }
 
-/* What a look-up of the library's has found, by its code and the first node of the chain. A table that isn't open has no pair. */
+/* Interprets a look-up of the library by its code and the first node of the chain. A table that isn't open has no pair. */
 static int node_found(uint32_t code, uint64_t first, const Key *key, Node **node) {
     *node = NULL;
     if (code != BUCKET_OK) {
@@ -90,15 +90,15 @@ int table_find(const Table *table, const Key *key, Node **node) {
     return node_found(code, first, key, node);
 }
 
-/* A cache has another seed than a map by the same bytes. If a cache takes a large map's pairs, in the order of that one's hashes,
- * those that it has at once would else meet in a few buckets. */
+/* A cache and a map made with the same bytes have different seeds. Otherwise, if a cache took a large map's pairs in the order
+ * of the map's hashes, those that it has at once would collide in a few buckets. */
 uint32_t table_open(Table *table, int kind) {
     bucket_seed seed = next_seed(table->state);
     seed.key1 = table->is_cache ? ~seed.key1 : seed.key1;
     return bucket_map_new(&table->handles[kind], 0, seed);
 }
 
-/* Puts a node whose key is absent, behind the last one of its chain if there is one. 0; -1: MemoryError, and nothing has
+/* Inserts a node whose key is absent, after the last one of its chain if there is one. 0; -1: MemoryError, and nothing has
  * changed. */
 static int insert(Table *table, const Key *key, Node *node, Node *last) {
     bucket_handle *handle = &table->handles[key->kind];
@@ -120,21 +120,21 @@ static int insert(Table *table, const Key *key, Node *node, Node *last) {
     return 0;
 }
 
-/* Takes the only node of a word out. */
+/* Removes the only node of a word. */
 static int take_only(Table *table, const Key *key, Node **node) {
     uint64_t first = 0;
     uint32_t code = bucket_map_remove(&table->handles[key->kind], key->word, &first);
     return node_found(code, first, key, node);
 }
 
-/* Takes the first of several nodes out of a chain: the table gets the second one in its place, which takes no memory. 1 or -1. */
+/* Removes the first of several nodes of a chain: the second one replaces it in the table, which allocates nothing. 1 or -1. */
 static int take_first(Table *table, const Key *key, const Node *first) {
     uint64_t second = (uint64_t)(uintptr_t)first->next, earlier = 0;
     uint32_t code = bucket_map_upsert(&table->handles[key->kind], key->word, second, &earlier);
     return code == BUCKET_PRESENT ? 1 : code_refused(code);
 }
 
-/* Takes the node at a key of HASHED out, wherever it stands in its chain. 1, 0, -1. */
+/* Removes the node of a key of HASHED, wherever it is in its chain. 1, 0, -1. */
 static int take_hashed(Table *table, const Key *key, Node **node) {
     uint64_t first = 0;
     uint32_t code = bucket_map_get(&table->handles[key->kind], key->word, &first);
@@ -231,8 +231,8 @@ int table_put(Table *table, PyObject *key, PyObject *value) {
 
 /* ---- All, or some ---- */
 
-/* Some node of a map or a set, or NULL. A reading goes on where the last one stood, which stays at a chain of several, and begins
- * anew once it is at the end. So all calls of a loop together cost what one reading does. */
+/* Any node of a map or a set, or NULL. The reading continues where the last call stopped, stays at a chain of several nodes, and
+ * starts again after the end. So all calls of a loop together cost as much as one reading. */
 static Node *some_node(Table *table) {
     int kind = table->lens[WORDS] > 0 ? WORDS : HASHED;
     for (int tries = 0; tries < 2 && table->lens[kind] > 0; tries++) {

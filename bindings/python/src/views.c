@@ -153,7 +153,7 @@ PyObject *set_like_compare(PyObject *self, PyObject *other, int op) {
     return is < 0 ? NULL : PyBool_FromLong(op == Py_NE ? !is : is);
 }
 
-/* Whether an object is quickly walked and asked: a set or a view, of no class below. */
+/* Whether an object is fast to iterate and to look up in: a set or a view, not of a subclass. */
 static bool is_cheap(const State *state, PyObject *object) {
     return PyAnySet_CheckExact(object) || Py_TYPE(object) == state->set || is_view(state, object);
 }
@@ -186,7 +186,7 @@ PyObject *set_like_isdisjoint(PyObject *self, PyObject *other) {
 
 /* 0 or -1. */
 static int call_set(PyObject *set, const char *call, PyObject *other) {
-    /* "O" alone would take a tuple for the arguments. */
+    /* "O" alone would take a tuple as the arguments. */
     PyObject *done = PyObject_CallMethod(set, call, "(O)", other);
     Py_XDECREF(done);
     return done == NULL ? -1 : 0;
@@ -200,7 +200,7 @@ static PyObject *set_after(PyObject *left, const char *call, PyObject *right) {
     return set;
 }
 
-/* Puts the items of an iterable that a view has to a set. 0 or -1. */
+/* Puts the items of an iterable that are in a view into a set. 0 or -1. */
 static int add_common(PyObject *set, PyObject *view, PyObject *items) {
     PyObject *iterator = PyObject_GetIter(items), *item;
     if (iterator == NULL) {
@@ -216,8 +216,9 @@ static int add_common(PyObject *set, PyObject *view, PyObject *items) {
     return code == 0 && PyErr_Occurred() ? -1 : code;
 }
 
-/* A set that is as long as the view, or longer, is asked for the view's items, which are hashed for that. Else the view is asked for
- * the other's items, or of two views the longer one for the shorter one's: what isn't in both isn't hashed. */
+/* If a set is at least as long as the view, the view's items are looked up in the set, and hashed for that. Otherwise the
+ * other's items are looked up in the view, or of two views the shorter one's items in the longer one: an item that isn't in both
+ * isn't hashed. */
 static PyObject *view_and(PyObject *left, PyObject *right) {
     State *state = state_of(left, right);
     bool is_left = state != NULL && is_view(state, left);
@@ -245,7 +246,7 @@ static PyObject *view_minus(PyObject *left, PyObject *right) {
     return set_after(left, "difference_update", right);
 }
 
-/* Takes a pair out of a dict that has it, else puts it to a set. 0 or -1. */
+/* Removes a pair from a dict that has it, else puts it into a set. 0 or -1. */
 static int toggle_pair(PyObject *dict, PyObject *set, PyObject *pair) {
     PyObject *key = PyTuple_GetItem(pair, 0), *value = Py_XNewRef(PyDict_GetItemWithError(dict, key));
     int is_same = PyErr_Occurred() ? -1 : 0;
@@ -256,7 +257,8 @@ static int toggle_pair(PyObject *dict, PyObject *set, PyObject *pair) {
     return is_same == 1 ? PyDict_DelItem(dict, key) : is_same == 0 ? PySet_Add(set, pair) : -1;
 }
 
-/* Puts the left pairs that the right ones lack to the dict, and the right pairs that the left ones lack to the set. 0 or -1. */
+/* Puts the left pairs that are not among the right ones into the dict, and the right pairs that are not among the left ones into
+ * the set. 0 or -1. */
 static int part_pairs(PyObject *dict, PyObject *set, PyObject *left, PyObject *right) {
     PyObject *iterator = PyDict_MergeFromSeq2(dict, left, 1) < 0 ? NULL : PyObject_GetIter(right), *pair;
     if (iterator == NULL) {
@@ -271,7 +273,7 @@ static int part_pairs(PyObject *dict, PyObject *set, PyObject *left, PyObject *r
     return code == 0 && PyErr_Occurred() ? -1 : code;
 }
 
-/* The pairs that one of two views of pairs has alone. A value that is equal in both isn't hashed. */
+/* The pairs in exactly one of two views of pairs. A value that is equal in both isn't hashed. */
 static PyObject *items_xor(PyObject *left, PyObject *right) {
     PyObject *dict = PyDict_New(), *set = dict == NULL ? NULL : PySet_New(NULL);
     PyObject *rest = set == NULL || part_pairs(dict, set, left, right) < 0 ? NULL : PyDict_Items(dict);
@@ -303,7 +305,7 @@ static PyMethodDef set_like_methods[] = {
     {NULL, NULL, 0, NULL},
 };
 
-/* What all views have, and what those of keys and of pairs have. */
+/* What all views share, and what those of keys and of pairs share. */
 #define VIEW_SLOTS(contents, iterate)                                                                                          \
     {Py_tp_doc, "A live view of the " contents "."}, {Py_tp_dealloc, view_dealloc}, {Py_tp_traverse, view_traverse},           \
         {Py_tp_clear, view_clear}, {Py_tp_repr, view_repr}, {Py_tp_iter, iterate}, {Py_sq_length, view_len},                   \

@@ -1,4 +1,4 @@
-"""What the module makes of each code that isn't an answer, seen with a library whose calls all answer what BUCKET_CODE says.
+"""What the module does with each code that reports a failure, tested with a library whose calls all return BUCKET_CODE.
 
 Run by `test` with a module that is linked to such a library."""
 
@@ -8,7 +8,7 @@ import os
 import bucket
 from kinds import raised
 
-# A code of a call, and what a look-up and a put make of it. A closed table has no pair yet, and one that stays closed is none.
+# A code of a call, and what a look-up and a put do with it. A closed table has no pair yet; one that stays closed is an error.
 NO_MEMORY, CLOSED, OPEN, OTHER_KIND, TOO_LONG, UNKNOWN = 3, 4, 5, 6, 8, 99
 ROWS = [
     (NO_MEMORY, MemoryError, MemoryError),
@@ -23,7 +23,7 @@ OF_PAIRS = [lambda made, key: made.get(key), lambda made, key: made.pop(key, Non
 OF_A_SET = [lambda made, key: made.discard(key)]
 PUTS = [lambda made, key: made.update({key: 1}), lambda made, key: made.__setitem__(key, 1), lambda made, key: made.setdefault(key)]
 PUTS_OF_A_SET = [lambda made, key: made.add(key), lambda made, key: made.update([key]), lambda made, key: made.__ior__({key})]
-# What asks the library nothing while there is no pair.
+# Calls that don't call the library while there is no pair.
 SILENT = [len, list, repr, copy.copy, copy.deepcopy, lambda made: made.clear(), lambda made: made == made.copy()]
 
 

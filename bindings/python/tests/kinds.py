@@ -1,4 +1,4 @@
-"""The types of the module bucket, filled beside a dict or a set, for tests."""
+"""The types of the module bucket, filled together with a dict or a set, for tests."""
 
 import collections
 import gc
@@ -21,12 +21,12 @@ def raw(number):
 
 
 def mixed(number):
-    """Of each five keys one is an int below 2**63, one an int above, a str in ASCII, another str, bytes."""
+    """Of every five keys one is an int below 2**63, one an int above, one an ASCII str, one another str, one bytes."""
     return [word(number), (1 << 63) + number, text(number), f"schlüssel {number}", raw(number)][number % 5]
 
 
 def alike(number):
-    """Of each six keys a str and bytes have one hash, and four ints from 2**63 on another."""
+    """Of every six keys a str and bytes share a hash, and four ints from 2**63 on share another."""
     group, member = divmod(number, 6)
     return [text(group), raw(group)][member] if member < 2 else (1 << 63) + group + (member - 2) * sys.hash_info.modulus
 
@@ -40,7 +40,7 @@ KINDS = [*MAPS, *CACHES, *SETS]
 
 
 class Model(collections.OrderedDict):
-    """What a Cache has, in the order of use."""
+    """The contents of a Cache, in LRU order."""
 
     peek = dict.get
 
@@ -54,14 +54,14 @@ class Model(collections.OrderedDict):
         return self.peek(key, default)
 
     def put(self, key, value):
-        """Puts a pair, and returns the one that goes, or None."""
+        """Puts a pair, and returns the evicted one, or None."""
         self[key] = value
         self.move_to_end(key)
         return self.popitem(last=False) if len(self) > self.maxsize else None
 
 
 class Other:
-    """Some value of a class of its own."""
+    """A value of a class of its own."""
 
 
 def put(made, key, value):
@@ -72,7 +72,7 @@ def put(made, key, value):
 
 
 def filled(kind, count):
-    """A collection of so many keys, and a dict or a set of the same."""
+    """A collection of that many keys, and a dict or a set of the same."""
     made, model = kind.type(), {}
     for number in range(count):
         put(made, kind.key(number), number)
@@ -81,7 +81,7 @@ def filled(kind, count):
 
 
 def contents(made):
-    """What is in a collection, each key looked up."""
+    """The contents of a collection, with each key looked up."""
     if isinstance(made, bucket.Set):
         return {key for key in made if key in made}
     look = made.peek if hasattr(made, "peek") else made.get
@@ -89,7 +89,7 @@ def contents(made):
 
 
 def raised(call, *arguments, **options):
-    """The type of what a call raises, or None."""
+    """The type of the exception that a call raises, or None."""
     try:
         call(*arguments, **options)
     except Exception as error:
@@ -98,7 +98,7 @@ def raised(call, *arguments, **options):
 
 
 def nodes_of(test, call):
-    """Makes a call, and asserts that no pair stays behind."""
+    """Makes a call, and asserts that no pair is leaked."""
     gc.collect()
     before = _bucket._nodes()
     call()

@@ -1,5 +1,5 @@
-/* Refuses requests for memory of the library, in a build of the module for tests: it is linked with --wrap, so that the library's
- * malloc, calloc, realloc, aligned_alloc and posix_memalign come here first. */
+/* Fails allocations of the library, in a build of the module for tests: it is linked with --wrap, so that the library's malloc,
+ * calloc, realloc, aligned_alloc and posix_memalign are intercepted here. */
 #include <errno.h>
 #include <stddef.h>
 
@@ -7,13 +7,13 @@
 
 static size_t asked, refused;
 
-/* From now on the n-th request is refused, and no other; none if n is 0. */
+/* From now on only the n-th request fails; none if n is 0. */
 SEEN void bucket_refuse(size_t n) {
     asked = 0;
     refused = n;
 }
 
-/* How many requests there were since. */
+/* How many requests there have been since. */
 SEEN size_t bucket_asked(void) {
     return asked;
 }

@@ -1,6 +1,6 @@
-"""Runs the tests of the module bucket that PYTHONPATH gives.
+"""Runs the tests of the module bucket found by PYTHONPATH.
 
-  run.py [NAME ..]    the files test_NAME.py, or all; prints a line, and what was left out
+  run.py [NAME ..]    the files test_NAME.py, or all; prints a line, and what was skipped
 """
 
 import os
@@ -13,7 +13,7 @@ HERE = os.path.dirname(os.path.abspath(__file__))
 
 
 def main():
-    # A test that never ends, or takes all memory, fails. A sanitizer has no use of less memory.
+    # A test that never ends, or takes all memory, fails. A sanitizer can't work with less memory.
     signal.alarm(int(os.environ.get("BUCKET_SECONDS", "600")))
     if "BUCKET_SANITIZED" not in os.environ:
         resource.setrlimit(resource.RLIMIT_AS, (4 << 30, 4 << 30))

@@ -1,4 +1,4 @@
-"""A cache: which pair goes, what touches and counts. An OrderedDict in the order of use says what is right."""
+"""A cache: which pair is evicted, what touches a pair, and what is counted. The reference is an OrderedDict in LRU order."""
 
 import copy
 import os

@@ -1,4 +1,4 @@
-"""200,000 calls by chance on each collection, beside a dict, a set, or an OrderedDict."""
+"""200,000 random calls on each collection, checked against a dict, a set, or an OrderedDict."""
 
 import itertools
 import os

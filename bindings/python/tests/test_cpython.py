@@ -1,6 +1,6 @@
-"""CPython's own tests of mappings and sets, where they are installed, with a Map and a Set in their places.
+"""CPython's own tests of mappings and sets, where they are installed, with a Map and a Set in place of dict and set.
 
-test_dict.DictTest writes its dicts as literals, so its stories are told anew in test_map.py, test_views.py and
+test_dict.DictTest writes its dicts as literals, so its tests are rewritten in test_map.py, test_views.py and
 test_lives.py: bool, clear, constructor, container_iterator, contains, copy, dict_items_result_gc,
 dictview_mixed_set_operations, dictview_set_operations_on_.., eq, equal_operator_modifying_operand,
 errors_in_view_containment_check, free_after_iterating, fromkeys, get, getitem, init_use_after_free,
@@ -8,21 +8,21 @@ invalid_keyword_arguments, items, items_symmetric_difference, iterator_pickling 
 len, literal_constructor, merge_and_mutate, merge_operator, missing, mutating_iteration.., pop, popitem, repr,
 repr_deep, setdefault, tuple_keyerror, update, values, views_mapping.
 
-Left out, of dict and of set, and why:
+Tests of dict and of set that are left out, and why:
 
-- Keys with an `__eq__` or a `__hash__` of their own, or of another type: none is put, and no equality is called.
+- Keys with their own `__eq__` or `__hash__`, or of another type: they can't be put, and no equality is called.
   Of a dict: bad_key, dict_contain_use_after_free, dictitems_contains_use_after_free, mutating_lookup,
   reentrant_insertion, resize1, resize2, setdefault_atomic, setitem_atomic_at_resize, str_nonstr,
   object_set_item_single_instance_non_str_key, instance_dict_getattr_str_subclass, fromkeys_operator_modifying_...
   Of a set: badcmp, cyclical_repr, deepcopy (whose key is a Tracer), do_not_rehash_dict_keys, setOfFrozensets.
-- A key that is unhashable, which is absent for a look-up here: contains, discard, remove, difference,
+- An unhashable key, which is absent for a look-up here: contains, discard, remove, difference,
   difference_update and intersection_update of a set, all of whose other lines test_set.py has.
-- The order of insertion, and what is reversed: dict_copy_order, reversed and all of reverse.., popitem's last in
+- The order of insertion, and reversal: dict_copy_order, reversed and all of reverse.., popitem's last in
   first out, merge_operator's order.
-- How a dict stands in memory: copy_fuzz, copy_noncompact, copy_maintains_tracking, empty_presized_dict_in_freelist,
+- How a dict is stored in memory: copy_fuzz, copy_noncompact, copy_maintains_tracking, empty_presized_dict_in_freelist,
   oob_indexing_dictiter_iternextitem, splittable_.., string_keys_can_track_values, track_..
 - Texts and attributes: repr's, which names the type here; pickling's attribute of a plain Set, which has none;
-  copy's of a class below a Map, which is a Map, as that of a class below dict is a dict.
+  copy's of a subclass of Map, which is a Map, as that of a subclass of dict is a dict.
 """
 
 import unittest
@@ -49,7 +49,7 @@ class SetBelow(bucket.Set):
 
 
 def without(tests, names):
-    """A class of tests without those."""
+    """A class of tests without the given ones."""
     return type(tests.__name__, (tests,), {f"test_{name}": None for name in names if hasattr(tests, f"test_{name}")})
 
 
@@ -72,7 +72,7 @@ def classes():
 
 
 def seeded(tests):
-    """Two maps that are filled alike give their pairs in one order only by one seed."""
+    """Two maps that are filled alike yield their pairs in the same order only with the same seed."""
 
     def test_popitem(self):
         bucket.seeded(bytes(range(16)))
@@ -83,7 +83,7 @@ def seeded(tests):
 
 
 def mixed(tests, left, right):
-    """Its set is of one type, and what the tests write as a set literal or as set(..) stays one."""
+    """Its set is of one type; what the tests write as a set literal or as set(..) remains a set."""
 
     def set_up(self):
         tests.setUp(self)

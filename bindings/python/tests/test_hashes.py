@@ -1,4 +1,4 @@
-"""Keys of one hash: a str and bytes that hold the same, strs of several widths, ints from 2**63 on. They stand in one chain."""
+"""Keys with equal hashes: a str and bytes with the same contents, strs of several widths, ints from 2**63 on. They share a chain."""
 
 import collections
 import gc
@@ -23,7 +23,7 @@ def ints_of(number):
     return [one for one in range(number, 1 << 64, sys.hash_info.modulus) if one >> 63]
 
 
-# A str whose hash ints have too.
+# A str whose hash some ints have too.
 TEXT = next(text for text in map(str, itertools.count(1000)) if 0 <= hash(text) < sys.hash_info.modulus)
 GROUPS = [
     ["a", b"a"],
@@ -39,7 +39,7 @@ ALL = [key for group in GROUPS for key in group]
 
 
 def fresh(key):
-    """An equal key that is another object, but for the strs that Python keeps."""
+    """An equal key that is another object, except for the strs that Python interns."""
     return (key + key[:1])[: len(key)] if isinstance(key, (str, bytes)) else int(str(key))
 
 
@@ -48,7 +48,7 @@ def is_set(made):
 
 
 def take(made, key):
-    """Removes a key that is there, in one of the ways that there are."""
+    """Removes a present key, in one of the possible ways."""
     made.remove(key) if is_set(made) else made.__delitem__(key) if hash(key) % 2 else made.pop(key)
 
 
@@ -62,7 +62,7 @@ def filled(kind, keys):
 
 class OneHash(unittest.TestCase):
     def check(self, made, model, keys):
-        """What is there is what a dict has, each key once."""
+        """The contents are those of a dict, each key once."""
         self.assertEqual(len(made), len(model))
         self.assertEqual(collections.Counter(list(made)), collections.Counter(list(model)))
         self.assertEqual({type(key) for key in made}, {type(key) for key in model})
@@ -191,7 +191,7 @@ class OneHash(unittest.TestCase):
 
 
 class ByChance(unittest.TestCase):
-    """Calls by chance on few keys, beside a dict or an OrderedDict."""
+    """Random calls on few keys, checked against a dict or an OrderedDict."""
 
     def test_maps_and_sets(self):
         source = random.Random(11)
@@ -305,7 +305,7 @@ class AFullBucket(unittest.TestCase):
 
 
 class Alike(unittest.TestCase):
-    """Objects that are one key."""
+    """Objects that are the same key."""
 
     def test_equal_strs_bytes_and_ints_that_are_other_objects(self):
         for key in ["key 1", "schl\xfcssel", "\u20ac 1", "\U0001f600 1", "\ud800 1", b"key 1", b"\xff 1", 1 << 63, (1 << 64) - 1]:

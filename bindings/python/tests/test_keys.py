@@ -1,4 +1,4 @@
-"""Which objects are keys, and how they come back."""
+"""Which objects are keys, and how they are returned."""
 
 import enum
 import unittest
@@ -18,7 +18,7 @@ class Number(int):
 
 
 class Ordered(int):
-    """Its slot of comparisons isn't int's, and its equality is."""
+    """Its comparison slot isn't int's, but its equality is."""
 
     def __lt__(self, other):
         return False

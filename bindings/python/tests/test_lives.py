@@ -17,7 +17,7 @@ COPIES = [copy.copy, copy.deepcopy, lambda made: made.copy()] + [
 ]
 
 
-# Pickles that have no numbers of keys, by the protocols 0, 2 and 4, and what is in them.
+# Pickles without numbers of keys, with protocols 0, 2 and 4, and their contents.
 OLDER_PICKLES = [
     (bucket.Map, {1: "a"}, b"ccopy_reg\n__newobj__\np0\n(cbucket\nMap\np1\ntp2\nRp3\nI1\nVa\np4\ns."),
     (bucket.Map, {1: "a"}, b"\x80\x02cbucket\nMap\nq\x00)\x81q\x01K\x01X\x01\x00\x00\x00aq\x02s."),
@@ -210,7 +210,7 @@ class Collected(unittest.TestCase):
 
 class Threads(unittest.TestCase):
     def in_threads(self, *works):
-        """Runs these side by side, and lets them take turns often."""
+        """Runs these concurrently, and lets them take turns often."""
         interval = sys.getswitchinterval()
         sys.setswitchinterval(1e-5)
         threads = [threading.Thread(target=work) for work in works]
@@ -258,7 +258,7 @@ class Threads(unittest.TestCase):
                     put(made, kind.key(number), number)
                     made.discard(kind.key(number)) if kind in SETS else made.pop(kind.key(number))
                     number = 500 + (number + 1) % 1000
-                    # Else hardly a reading ends without a change of the size.
+                    # Otherwise hardly any reading ends without a change of the size.
                     time.sleep(0.001)
 
             def read():

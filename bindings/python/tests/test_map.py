@@ -1,4 +1,4 @@
-"""A dict's calls, as Map has them. What a dict does says what is right."""
+"""The methods of a dict that Map has. The expected results are those of a dict."""
 
 import collections
 import sys

@@ -1,6 +1,6 @@
-"""Each request for memory refused in turn: a call raises MemoryError, or does without, and nothing is lost.
+"""Each allocation fails in turn: a call raises MemoryError, or continues without it, and nothing is lost.
 
-Python's own requests are refused by _testcapi; those of the library in a build with refuse.c."""
+Python's own allocations are made to fail by _testcapi; those of the library in a build with refuse.c."""
 
 import copy
 import ctypes
@@ -26,12 +26,12 @@ if REFUSES:
     LIBRARY.bucket_refuse.argtypes, LIBRARY.bucket_refuse.restype = [ctypes.c_size_t], None
     LIBRARY.bucket_asked.restype = ctypes.c_size_t
 
-# pickle names another error, if the memory for an import is refused.
+# pickle raises another error if the allocation for an import fails.
 REFUSALS = MemoryError, pickle.PicklingError
 
 LONG = ["k" * 500, b"k" * 500, "\ud800" * 50, "ü" * 200]
 
-# Calls that change nothing, whether they are refused or not.
+# Calls that change nothing, whether they fail or not.
 READS = [
     lambda made, key: key(3) in made,
     lambda made, key: [key(number) in made for number in range(20)],
@@ -60,7 +60,7 @@ READS_OF_A_SET = [
     lambda made, key: made ^ {key(3), key(90)},
     lambda made, key: made.issubset([key(3)]),
 ]
-# Calls that either do all, or nothing.
+# Calls that do either everything or nothing.
 WRITES = [
     lambda made, key: put(made, key(3), 100),
     lambda made, key: put(made, key(90), 100),
@@ -88,7 +88,7 @@ def calls(kind):
     return [(call, False) for call in reads] + [(call, True) for call in writes]
 
 
-# Calls on a full cache: a copy, or a put of an absent key. A key that is there is put and read without a request.
+# Calls on a full cache: a copy, or a put of an absent key. A present key is put and read without allocating.
 CALLS_OF_A_CACHE = [
     lambda made, key: made.put(key, 100),
     lambda made, key: made.__setitem__(key, 100),
@@ -102,7 +102,7 @@ CALLS_OF_A_CACHE = [
 
 
 def full(count):
-    """Caches that so many pairs fill."""
+    """Caches that are filled by that many pairs."""
     return [Kind(lambda: bucket.Cache(max(count, 1)), key) for key in KEYS]
 
 
@@ -110,18 +110,18 @@ class Refused(unittest.TestCase):
     SEED = bytes(range(16))
 
     def setUp(self):
-        # By one seed each run makes the same requests.
+        # With one seed each run makes the same requests.
         bucket.seeded(self.SEED)
         self.addCleanup(bucket.seeded, None)
 
     def check(self, kind, made, model, call, is_write, is_refused):
-        """What is there after a call: what was, or if it is a write that was not refused, something else."""
+        """The contents after a call: the earlier ones, or something else after a write that didn't fail."""
         self.assertEqual(len(made), len(list(made)))
         if is_refused or not is_write:
             self.assertEqual(contents(made), model, kind.key.__name__)
         if is_refused and is_write and isinstance(made, bucket.Cache):
             self.assertEqual(list(made.items()), list(model.items()))
-        # The collection goes on.
+        # The collection stays usable.
         put(made, kind.key(200), 1)
         self.assertIn(kind.key(200), made)
 
@@ -168,7 +168,7 @@ class Refused(unittest.TestCase):
         for count in 0, 12, 60, 300:
             for kind in KINDS + full(count):
                 for call, is_write in calls(kind):
-                    # Those that fill another one need many requests: small ones will do.
+                    # Calls that fill another collection make many requests, so small collections suffice.
                     if count == 0 and call not in WRITES[:4] or count > 12 and not is_write:
                         continue
                     for number in range(1, 1000):
@@ -189,7 +189,7 @@ class Refused(unittest.TestCase):
         self.assertGreater(refusals, 500)
 
     def play_full(self, keys, call, refuse, end):
-        """A call on a full cache, with each of its requests refused in turn. Returns how many were, or did without."""
+        """A call on a full cache, with each of its requests failing in turn. Returns how many failed, or were done without."""
         for number in range(1, 1000):
             made, is_refused = bucket.Cache(len(keys) - 1), False
             for key in keys[:-1]:
@@ -207,7 +207,7 @@ class Refused(unittest.TestCase):
                 self.assertEqual((now, len(made)), (before, len(before)))
             else:
                 self.assertEqual(now, after)
-            # The cache goes on, and lets the next one go.
+            # The cache stays usable, and evicts the next one.
             self.assertEqual(made.put("next", 1), now[0])
             self.assertEqual(list(made.items()), [*now[1:], ("next", 1)])
             if is_last:
@@ -296,7 +296,7 @@ class Refused(unittest.TestCase):
                     _testcapi.set_nomemory(number, number + 1)
                     try:
                         made.update({"a": 1, 2: 3, "k" * 300: 4})
-                        # Not by the module copy, which leaves objects of any class behind if a call is refused.
+                        # Not by the module copy, which leaves objects of any class behind if a call fails.
                         made.copy().popitem()
                         made.copy() == made
                     except MemoryError:

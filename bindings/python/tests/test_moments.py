@@ -1,4 +1,4 @@
-"""Code of others that runs at bad moments, the end of an interpreter, and seeds."""
+"""Foreign code that runs at bad moments, the end of an interpreter, and seeds."""
 
 import os
 import subprocess
@@ -10,7 +10,7 @@ from kinds import Other, nodes_of, raised
 
 
 class BadMoments(unittest.TestCase):
-    """Code of others that runs in the midst of a call, and changes the collection."""
+    """Foreign code that runs in the middle of a call, and changes the collection."""
 
     def changes(self):
         return [

@@ -1,8 +1,8 @@
-"""Many pairs from another collection: they come in the order of its slots, which takes no longer.
+"""Many pairs from another collection come in the order of its slots; inserting them takes no longer than otherwise.
 
-By one seed that is the order of the hashes. In a table that grows as it is filled, all would meet
-in the first buckets. The blocks of their chains are requests for memory: in a build with refuse.c
-these are counted, and refused."""
+With the same seed that is the order of the hashes. In a table that grows while it is filled, all would
+collide in the first buckets. The blocks of their chains are allocations: in a build with refuse.c these
+are counted, and made to fail."""
 
 import copy
 import pickle
@@ -67,12 +67,12 @@ def pairs_of(key, count):
 
 
 def slots(made):
-    """About how many there are, and so at least as many as there are pairs."""
+    """About how many slots there are, which is at least the number of pairs."""
     return (made.__sizeof__() - bucket.Map().__sizeof__()) / 18
 
 
 def asked(call):
-    """How many requests for memory the library makes in a call."""
+    """The number of allocations that the library makes in a call."""
     LIBRARY.bucket_refuse(0)
     made = call()
     count = LIBRARY.bucket_asked()
@@ -192,7 +192,7 @@ class Requests(unittest.TestCase):
             for key in KEYS:
                 pairs = pairs_of(key, 3000)
                 made = bucket.Map(pairs)
-                # A thousand pairs that met in a few buckets would ask for some 250 blocks.
+                # A thousand pairs that collide in a few buckets would need about 250 blocks.
                 for other in pairs, made, made.items(), list(made.items()), iter(made.items()):
                     self.assertLess(asked(lambda: updated(bucket.Cache(1000), other)), 150)
 
@@ -205,7 +205,7 @@ class Requests(unittest.TestCase):
             self.assertLess(asked(lambda: [third.add(at) for at in other]), 3 * before)
 
     def refused(self, target, call, before, after):
-        """What is there after each refusal that raised, and how many a call did without."""
+        """The contents after each failure that raised, and how many allocations a call did without."""
         left, without = [], 0
         for number in range(1, 100):
             made, is_refused = target(), False
@@ -244,7 +244,7 @@ class Requests(unittest.TestCase):
             for made in source, updated(bucket.Cache(2000), pairs):
                 left, _ = self.refused(type(made), lambda _: made.copy(), {}, pairs)
                 self.assertEqual(left[0], {})
-            # A list may have a key many times, so a call does without that room.
+            # A list may have a key many times, so a call continues without that room.
             for unsure in list(source.items()), tuple(source.items()):
                 for target in bucket.Map, lambda: bucket.Cache(2000):
                     _, without = self.refused(target, lambda made: made.update(unsure), {}, pairs)

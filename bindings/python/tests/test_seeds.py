@@ -1,6 +1,6 @@
-"""The hash of a seed, seen in the order of the keys: a bucket is named by the highest bits of a hash, so the keys of one array come
-in ascending order of these. A seed that isn't zero has to give the order of SipHash-1-3 with the seed as its keys, here written
-anew, and another seed another order."""
+"""The hash of a seed, observed in the order of the keys: the highest bits of a hash are the index of its bucket, so the keys of one
+array come in ascending order of these. A seed that isn't zero must give the order of SipHash-1-3 with the seed as its keys, which is
+reimplemented here, and another seed another order."""
 
 import itertools
 import os
@@ -57,14 +57,14 @@ def text_message(key):
 
 
 def of_one_bucket(seed, count):
-    """So many strs that stand in the first of 64 buckets of a cache. A cache has the other half of a seed inverted."""
+    """That many strs that are in the first of 64 buckets of a cache. A cache inverts the other half of a seed."""
     seed = seed[:8] + bytes(255 - byte for byte in seed[8:])
     texts = (f"key {number}" for number in itertools.count())
     return list(itertools.islice((text for text in texts if sip_hash(seed, text_message(text)) >> 58 == 0), count))
 
 
 def filled(keys, seed):
-    """The keys in the order of a map, whose growth has ended."""
+    """The keys in the order of a map whose growth has ended."""
     bucket.seeded(seed)
     made = bucket.Map.fromkeys(keys)
     for _ in range(200):
@@ -75,7 +75,7 @@ def filled(keys, seed):
 
 
 def is_ordered(seed, keys, message):
-    """Whether keys in a table of 64 and more buckets stand by the highest six bits of their hashes."""
+    """Whether keys in a table of 64 or more buckets are ordered by the highest six bits of their hashes."""
     bits = [sip_hash(seed, message(key)) >> 58 for key in keys]
     return bits == sorted(bits)
 

@@ -1,4 +1,4 @@
-"""A set's calls and operators, as Set has them. What a set does says what is right."""
+"""The methods and operators of a set that Set has. The expected results are those of a set."""
 
 import collections
 import itertools

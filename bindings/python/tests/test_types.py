@@ -1,4 +1,4 @@
-"""The stubs: mypy takes them and a program of their types, and they name what the module has."""
+"""The stubs: mypy accepts them and a typed program, and they declare what the module has."""
 
 import ast
 import os
@@ -11,7 +11,7 @@ import bucket
 
 HERE = os.path.dirname(os.path.abspath(__file__))
 FOLDER = os.path.dirname(os.path.abspath(bucket.__file__))
-# What a type has from `type`, or in Python 3.11 from object.
+# Attributes that a type inherits from `type`, or in Python 3.11 from object.
 OF_EACH = set(dir(object)) | {"__slotnames__", "__module__", "__doc__", "__weakref__", "__getstate__", "__reduce__", "__dict__"}
 
 

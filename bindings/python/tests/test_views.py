@@ -1,4 +1,4 @@
-"""Iterations and views. What those of a dict and a set do says what is right."""
+"""Iterators and views. The expected results are those of a dict and a set."""
 
 import itertools
 import operator
@@ -21,7 +21,7 @@ COMPARISONS = [operator.eq, operator.ne, operator.lt, operator.le, operator.gt, 
 
 
 class Counted:
-    """A value that can't be hashed, gives each comparison the same answer, and counts them."""
+    """A value that can't be hashed, returns the same result from each comparison, and counts them."""
 
     __hash__ = None
     compared = 0
@@ -35,7 +35,7 @@ class Counted:
 
 
 def outcome(call, *arguments):
-    """What a call returns, with its type, or the type of what it raises."""
+    """The result of a call, with its type, or the type of the exception that it raises."""
     try:
         returned = call(*arguments)
     except Exception as error:

@@ -1,4 +1,4 @@
-"""A program that a checker of types has to accept, but for the lines that say otherwise. It also runs."""
+"""A program that a type checker must accept, except for the marked lines. It also runs."""
 
 import bucket
 from bucket import Cache, Map, Set

@@ -1,7 +1,7 @@
-//! A bounded store of sessions: whoever logs in gets a token, one that wasn't used for too long is over, and where
-//! there are too many, those that were used longest ago go.
+//! A bounded store of sessions: whoever logs in gets a token; a session that wasn't used for too long has expired;
+//! and if there are too many, those used longest ago are evicted.
 //!
-//! `cargo run --example session_store` plays a day of it, and ends with status 0 if the store did what it should.
+//! `cargo run --example session_store` simulates one day, and ends with status 0 if the store behaved correctly.
 
 use bucket::{Cache, NoMemory};
 use std::fmt;
@@ -17,13 +17,13 @@ struct Session {
 /// Why a request has no session.
 #[derive(Debug, PartialEq)]
 enum Refused {
-    /// Nobody has this token, or its session went for another one.
+    /// Nobody has this token, or its session was evicted for another one.
     Unknown,
     /// It wasn't used for too long.
     Expired,
 }
 
-/// The sessions of a server, at most so many. Times are seconds.
+/// The sessions of a server, up to a maximum number. Times are in seconds.
 struct SessionStore {
     sessions: Cache<String, Session>,
     lifetime: u64,
@@ -36,7 +36,7 @@ impl SessionStore {
         Ok(SessionStore { sessions: Cache::new(most)?, lifetime, logins: 0, evicted: 0 })
     }
 
-    /// Opens a session, and returns its token. If there is no memory, no session has gone for it.
+    /// Opens a session, and returns its token. If allocation fails, no session is evicted.
     fn log_in(&mut self, user: &str, now: u64) -> Result<String, NoMemory> {
         self.logins += 1;
         let token = format!("{:016x}", self.logins.wrapping_mul(0x9e37_79b9_7f4a_7c15)); // a true one is random
@@ -50,7 +50,7 @@ impl SessionStore {
         Ok(token)
     }
 
-    /// The session of a token, whose use is noted.
+    /// Returns the session of a token, and records its use.
     fn visit(&mut self, token: &str, page: &str, now: u64) -> Result<&mut Session, Refused> {
         let session = self.sessions.peek(token).ok_or(Refused::Unknown)?;
         if now - session.last_used > self.lifetime {
@@ -67,7 +67,7 @@ impl SessionStore {
         self.sessions.remove(token)
     }
 
-    /// Drops what is over, and returns how many sessions that were.
+    /// Drops the expired sessions, and returns how many there were.
     fn sweep(&mut self, now: u64) -> usize {
         let before = self.sessions.len();
         let lifetime = self.lifetime;
@@ -87,7 +87,7 @@ fn main() -> Result<(), NoMemory> {
     let mut store = SessionStore::new(1024, 3600)?;
     let ann = store.log_in("Ann", 0)?;
     let bob = store.log_in("Bob", 0)?;
-    // Ten thousand guests come in a day, one each nine seconds; Ann looks around all the time, and Bob never.
+    // Ten thousand guests come in a day, one every nine seconds; Ann looks around all the time, and Bob never.
     for guest in 0..10_000 {
         let now = guest * 9;
         let token = store.log_in(&format!("guest {guest}"), now)?;

@@ -1,5 +1,6 @@
-//! Prints what calls take with a million pairs, in nanoseconds a call, beside std's map by two hashers.
-//! `cargo run --release --example times ROUNDS PAIRS` prints the least of so many rounds; it asserts nothing.
+//! Prints how long calls take with a million pairs, in nanoseconds per call, compared with std's map with two
+//! hashers. `cargo run --release --example times ROUNDS PAIRS` prints the minimum over that many rounds; it asserts
+//! nothing.
 
 use bucket::{Cache, Map, Seed, Set};
 use std::collections::hash_map::RandomState;
@@ -8,7 +9,7 @@ use std::hash::{BuildHasher, BuildHasherDefault, Hasher};
 use std::hint::black_box;
 use std::time::Instant;
 
-/// A folded multiplication of the last word: some of the fastest that is used for maps.
+/// A folded multiplication of the last word: one of the fastest hashes in use for maps.
 #[derive(Default)]
 struct Folded(u64);
 
@@ -33,16 +34,16 @@ impl Hasher for Folded {
 
 type FoldedState = BuildHasherDefault<Folded>;
 
-/// The least time of each call, in the order in which they came first.
+/// The minimum time of each call, in the order in which they first ran.
 struct Times(Vec<(String, f64)>);
 
 impl Times {
-    /// Times a call on each key.
+    /// Times a call for each key.
     fn add<K>(&mut self, name: String, keys: &[K], mut call: impl FnMut(&K) -> u64) {
         self.once(name, keys.len(), || keys.iter().fold(0u64, |sum, key| sum.wrapping_add(call(key))));
     }
 
-    /// Times a call that does so many things.
+    /// Times a call that does that many operations.
     fn once(&mut self, name: String, count: usize, call: impl FnOnce() -> u64) {
         let start = Instant::now();
         black_box(call());

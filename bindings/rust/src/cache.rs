@@ -9,7 +9,7 @@ use crate::kind::Caches;
 use crate::table::Table;
 use crate::{Key, NoMemory, Seed};
 
-/// A bounded map: where there is no room for a new pair, one that was touched longest ago goes.
+/// A bounded map: if there is no room for a new pair, it evicts one that was touched longest ago.
 ///
 /// ```
 /// use bucket::Cache;
@@ -23,9 +23,9 @@ use crate::{Key, NoMemory, Seed};
 /// # Ok::<(), bucket::NoMemory>(())
 /// ```
 ///
-/// It isn't one list of all pairs by their use, as the crate `lru` has it, but buckets of 32 slots, each with a list
-/// of its own, of at least 64 slots together: a pair goes for a new one of its bucket, so a cache evicts before all
-/// its slots are taken (some 60 of 64 stay, or 231 of 256), and while it grows. What goes is its bucket's oldest.
+/// It isn't one list of all pairs by their use, as in the crate `lru`, but buckets of 32 slots, each with a list of
+/// its own, with at least 64 slots in all. A new pair evicts one of its own bucket, the one touched longest ago
+/// there. So a cache evicts before all its slots are taken (about 60 of 64 stay, or 231 of 256), and while it grows.
 ///
 /// [`put`](Cache::put), [`get`](Cache::get) and [`get_mut`](Cache::get_mut) touch a pair; [`peek`](Cache::peek),
 /// [`contains`](Cache::contains) and the iterators touch none.
@@ -33,13 +33,13 @@ pub struct Cache<K, V> {
     table: Table<Caches, K, V>,
 }
 
-/// The least number of slots that a cache may have at most, and the greatest.
+/// The limits of a cache's maximum number of slots.
 const LEAST_SLOTS: usize = 64;
 const MOST_SLOTS: usize = 1 << 63;
 
 impl<K: Key, V> Cache<K, V> {
-    /// An empty cache that grows to the least power of two that is at least so many slots and 64. It hashes by a
-    /// random seed.
+    /// Returns an empty cache that grows to the least power of two that is at least that many slots and 64. It hashes
+    /// with a random seed.
     ///
     /// # Errors
     ///
@@ -54,7 +54,7 @@ impl<K: Key, V> Cache<K, V> {
         Cache::opened(0, maximum, None)
     }
 
-    /// The same, hashed by this seed.
+    /// The same, hashed with this seed.
     ///
     /// # Errors
     ///
@@ -63,15 +63,15 @@ impl<K: Key, V> Cache<K, V> {
     /// ```
     /// use bucket::{Cache, Seed};
     ///
-    /// let cache: Cache<u64, u64> = Cache::with_seed(1000, Seed::FIXED)?; // for keys that no enemy chooses
+    /// let cache: Cache<u64, u64> = Cache::with_seed(1000, Seed::FIXED)?; // for keys that no attacker chooses
     /// # Ok::<(), bucket::NoMemory>(())
     /// ```
     pub fn with_seed(maximum: usize, seed: Seed) -> Result<Cache<K, V>, NoMemory> {
         Cache::opened(0, maximum, Some(seed))
     }
 
-    /// The same, of at least `minimum` slots from the first pair on, and of as many at most if that is more than
-    /// `maximum`.
+    /// The same, with at least `minimum` slots from the first pair on, and with a maximum of `minimum` if that is
+    /// more than `maximum`.
     ///
     /// # Errors
     ///
@@ -98,7 +98,7 @@ impl<K: Key, V> Cache<K, V> {
 }
 
 impl<K, V> Cache<K, V> {
-    /// How many pairs. O(1).
+    /// Returns the number of pairs. O(1).
     ///
     /// ```
     /// let mut cache = bucket::Cache::new(100)?;
@@ -110,7 +110,7 @@ impl<K, V> Cache<K, V> {
         self.table.len()
     }
 
-    /// Whether there is no pair. O(1).
+    /// Returns `true` if there are no pairs. O(1).
     ///
     /// ```
     /// assert!(bucket::Cache::<u64, u64>::new(100)?.is_empty());
@@ -120,8 +120,8 @@ impl<K, V> Cache<K, V> {
         self.len() == 0
     }
 
-    /// How many slots it may have at most. It never has more pairs; a bucket whose 32 slots are taken evicts, though others
-    /// may have room.
+    /// Returns the maximum number of slots. The cache never has more pairs than that; a bucket whose 32 slots are
+    /// taken evicts, even if other buckets have room.
     ///
     /// ```
     /// assert_eq!(bucket::Cache::<u64, u64>::new(100)?.cap(), 128);

@@ -1,4 +1,4 @@
-//! What a call answers that didn't insert a pair.
+//! What a call returns that didn't insert a pair.
 
 use std::collections::TryReserveError;
 use std::error::Error;
@@ -6,7 +6,7 @@ use std::{fmt, io};
 
 /// An allocation failed; the pairs are as they were.
 ///
-/// It becomes an [`io::Error`] of the kind `OutOfMemory`, and a [`TryReserveError`] becomes it, so that `?`
+/// It converts to an [`io::Error`] of the kind `OutOfMemory`, and a [`TryReserveError`] converts to it, so that `?`
 /// passes either on.
 ///
 /// ```
@@ -49,7 +49,7 @@ impl From<TryReserveError> for NoMemory {
 /// Why a pair wasn't inserted.
 #[derive(Debug, Clone, Copy, PartialEq, Eq, Hash)]
 pub enum Reason {
-    /// The key is there.
+    /// The key is present.
     Present,
     /// An allocation failed.
     NoMemory,
@@ -93,7 +93,7 @@ impl<K, V> NotInserted<K, V> {
         NotInserted::new(pair, Reason::NoMemory)
     }
 
-    /// The pair that wasn't inserted.
+    /// Returns the pair that wasn't inserted.
     ///
     /// ```
     /// use bucket::Map;
@@ -106,7 +106,7 @@ impl<K, V> NotInserted<K, V> {
     }
 }
 
-/// Prints the reason alone, for any key and value.
+/// Prints only the reason, for any key and value.
 impl<K, V> fmt::Debug for NotInserted<K, V> {
     fn fmt(&self, f: &mut fmt::Formatter<'_>) -> fmt::Result {
         f.debug_struct("NotInserted").field("reason", &self.reason).finish_non_exhaustive()

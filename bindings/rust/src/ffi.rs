@@ -8,7 +8,7 @@ pub(crate) const PRESENT: u32 = 2;
 pub(crate) const CLOSED: u32 = 4;
 pub(crate) const EVICTED: u32 = 7;
 
-/// A `bucket_handle`, which is freed as it is dropped. Nothing but the library reads its fields.
+/// A `bucket_handle`, which is freed when it is dropped. Only the library reads its fields.
 ///
 /// The library takes one call at a time on a handle, look-ups too, so it isn't `Sync`.
 #[repr(C)]
@@ -17,7 +17,7 @@ pub(crate) struct Handle {
     live: bool,
 }
 
-/// A `bucket_place`: where a reading of all pairs stands.
+/// A `bucket_place`: how far a reading of all pairs has come.
 #[repr(C)]
 #[derive(Clone)]
 pub(crate) struct Place {
@@ -25,7 +25,7 @@ pub(crate) struct Place {
     pair: usize,
 }
 
-/// A `bucket_pair`; the key is 0 where it is a byte string.
+/// A `bucket_pair`; the key is 0 if it is a byte string.
 #[repr(C)]
 #[derive(Clone, Copy)]
 pub(crate) struct Pair {
@@ -33,11 +33,11 @@ pub(crate) struct Pair {
     pub(crate) value: u64,
 }
 
-// SAFETY: it is proved that a handle may go to another thread, by `handles_cross` in
-// crates/bucket_c/src/handle.rt. What its values point to is said by the types that hold it.
+// SAFETY: `handles_cross` in crates/bucket_c/src/handle.rt proves that a handle may be sent to another thread. The
+// types that hold it state what its values point to.
 unsafe impl Send for Handle {}
 
-// What a panic leaves behind is whole: no call of the library calls anything of the caller's.
+// A panic leaves the handle valid: no call of the library calls back into the caller's code.
 impl std::panic::RefUnwindSafe for Handle {}
 
 impl Handle {
@@ -51,14 +51,14 @@ impl Pair {
 impl Place {
     pub(crate) const START: Place = Place { bucket: 0, pair: 0 };
 
-    /// Reads pairs from this place on into a buffer, moves the place behind them, and returns how many they are:
-    /// as many as there is room for, or all that are left. It is `bucket_read` of the header.
+    /// Reads pairs from this place on into a buffer, advances the place past them, and returns their number: as many
+    /// as there is room for, or all that are left. It is `bucket_read` of the header.
     pub(crate) fn read(&mut self, handle: &Handle, out: &mut [Pair]) -> usize {
         let mut read = 0;
         while read < out.len() {
             let rest = &mut out[read..];
             let mut more = 0;
-            // SAFETY: the handle is no other call's meanwhile, and the room is that of the rest.
+            // SAFETY: no other call uses the handle meanwhile, and the room is that of the rest.
             let code = unsafe { bucket_pairs_in(handle, self.bucket, self.pair, rest.as_mut_ptr(), rest.len(), &mut more) };
             if code != OK {
                 break;
@@ -76,7 +76,7 @@ impl Place {
 
 impl Drop for Handle {
     fn drop(&mut self) {
-        // SAFETY: a handle is closed, or one that the library opened, and nothing but the library changes it.
+        // SAFETY: a handle is closed, or was opened by the library, and only the library changes it.
         unsafe { bucket_free(self) }
     }
 }

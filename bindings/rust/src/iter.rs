@@ -1,4 +1,4 @@
-//! Iterators over pairs, keys and values. None takes memory, and all steps together are O(slots).
+//! Iterators over pairs, keys and values. None allocates, and all steps together are O(slots).
 
 use crate::ffi::Handle;
 use crate::node::{at, take_back, Held, Rest, Walk};
@@ -7,8 +7,8 @@ use std::fmt;
 use std::iter::FusedIterator;
 use std::marker::PhantomData;
 
-/// The pairs that are left, in no promised order. [`Map::iter`](crate::Map::iter) and
-/// [`Cache::iter`](crate::Cache::iter) make it.
+/// An iterator over pairs, in no particular order. Created by [`Map::iter`](crate::Map::iter) and
+/// [`Cache::iter`](crate::Cache::iter).
 pub struct Iter<'a, K, V> {
     /// None: there is no collection.
     handle: Option<&'a Handle>,
@@ -30,7 +30,7 @@ impl<'a, K, V> Iterator for Iter<'a, K, V> {
     fn next(&mut self) -> Option<(&'a K, &'a V)> {
         let address = self.walk.next(self.handle?)?;
         self.left -= 1;
-        // SAFETY: the node stands in the table, which is lent for as long.
+        // SAFETY: the node is in the table, which is borrowed for as long.
         let node = unsafe { &*at::<K, V>(address) };
         Some((&node.key, &node.value))
     }
@@ -40,7 +40,7 @@ impl<'a, K, V> Iterator for Iter<'a, K, V> {
     }
 }
 
-/// Gives nothing.
+/// Yields nothing.
 impl<K, V> Default for Iter<'_, K, V> {
     fn default() -> Self {
         Iter { handle: None, walk: Walk::new(), left: 0, pairs: PhantomData }
@@ -53,8 +53,8 @@ impl<K, V> Clone for Iter<'_, K, V> {
     }
 }
 
-/// The pairs that are left, with values that may be changed, in no promised order.
-/// [`Map::iter_mut`](crate::Map::iter_mut) and [`Cache::iter_mut`](crate::Cache::iter_mut) make it.
+/// An iterator over pairs with mutable values, in no particular order. Created by
+/// [`Map::iter_mut`](crate::Map::iter_mut) and [`Cache::iter_mut`](crate::Cache::iter_mut).
 pub struct IterMut<'a, K, V> {
     /// None: there is no collection.
     handle: Option<&'a mut Handle>,
@@ -74,7 +74,7 @@ impl<'a, K, V> IterMut<'a, K, V> {
     }
 }
 
-/// Gives nothing.
+/// Yields nothing.
 impl<K, V> Default for IterMut<'_, K, V> {
     fn default() -> Self {
         IterMut { handle: None, walk: Walk::new(), left: 0, pairs: PhantomData }
@@ -89,7 +89,7 @@ impl<'a, K, V> Iterator for IterMut<'a, K, V> {
         let address = self.walk.next(self.handle.as_deref()?)?;
         self.left -= 1;
         let node = at::<K, V>(address);
-        // SAFETY: the node stands in the table, which is lent for as long, and comes once.
+        // SAFETY: the node is in the table, which is borrowed for as long, and comes once.
         Some(unsafe { (&(*node).key, &mut (*node).value) })
     }
 
@@ -98,7 +98,7 @@ impl<'a, K, V> Iterator for IterMut<'a, K, V> {
     }
 }
 
-/// The nodes that are left of a table that was taken, whose pairs are handed out.
+/// The remaining nodes of a table that was taken, whose pairs are returned by value.
 pub(crate) struct Nodes<K, V> {
     rest: Rest,
     left: usize,
@@ -115,7 +115,7 @@ impl<K, V> Nodes<K, V> {
     fn next(&mut self) -> Option<(K, V)> {
         let address = self.rest.next()?;
         self.left -= 1;
-        // SAFETY: the node stood in the table, which is no more, and comes once.
+        // SAFETY: the node was in the table, which no longer exists, and comes once.
         Some(unsafe { take_back::<K, V>(address) }.into_pair())
     }
 
@@ -124,19 +124,18 @@ impl<K, V> Nodes<K, V> {
     }
 }
 
-/// The pairs that are left of a collection that was given away, in no promised order. What is left as it is
-/// dropped is dropped with it.
+/// An owning iterator over a collection's pairs, in no particular order. The rest is dropped with it.
 pub struct IntoIter<K, V>(pub(crate) Nodes<K, V>);
 
-/// Gives nothing.
+/// Yields nothing.
 impl<K, V> Default for IntoIter<K, V> {
     fn default() -> Self {
         IntoIter(Nodes { rest: Held::closed::<K, V>().take(), left: 0, pairs: PhantomData })
     }
 }
 
-/// The pairs that are left of those that a collection had, in no promised order.
-/// [`Map::drain`](crate::Map::drain) makes it. What is left as it is dropped is dropped with it.
+/// A draining iterator over a collection's pairs, in no particular order. Created by
+/// [`Map::drain`](crate::Map::drain). The rest is dropped with it.
 pub struct Drain<'a, K, V> {
     nodes: Nodes<K, V>,
     table: PhantomData<&'a mut (K, V)>,
@@ -184,7 +183,7 @@ impl<K, V> Iterator for Drain<'_, K, V> {
     }
 }
 
-/// An iterator over a half of what another one gives.
+/// An iterator over one half of what another iterator yields.
 macro_rules! halves {
     ($($(#[$about:meta])* $name:ident<$($a:lifetime)?>: $whole:ident, $item:ty, $half:tt;)*) => { $(
         $(#[$about])*
@@ -206,7 +205,7 @@ macro_rules! halves {
         impl<$($a,)? K, V> ExactSizeIterator for $name<$($a,)? K, V> {}
         impl<$($a,)? K, V> FusedIterator for $name<$($a,)? K, V> {}
 
-        /// Gives nothing.
+        /// Yields nothing.
         impl<$($a,)? K, V> Default for $name<$($a,)? K, V> {
             fn default() -> Self {
                 $name($whole::default())
@@ -222,17 +221,16 @@ macro_rules! halves {
 }
 
 halves! {
-    /// The keys that are left, in no promised order. [`Map::keys`](crate::Map::keys) makes it.
+    /// An iterator over keys, in no particular order. Created by [`Map::keys`](crate::Map::keys).
     Keys<'a>: Iter, &'a K, 0;
-    /// The values that are left, in no promised order. [`Map::values`](crate::Map::values) makes it.
+    /// An iterator over values, in no particular order. Created by [`Map::values`](crate::Map::values).
     Values<'a>: Iter, &'a V, 1;
-    /// The values that are left, to be changed, in no promised order. [`Map::values_mut`](crate::Map::values_mut)
-    /// makes it.
+    /// An iterator over mutable values, in no particular order. Created by
+    /// [`Map::values_mut`](crate::Map::values_mut).
     ValuesMut<'a>: IterMut, &'a mut V, 1;
-    /// The keys that are left of a map that was given away. [`Map::into_keys`](crate::Map::into_keys) makes it.
+    /// An owning iterator over a map's keys. Created by [`Map::into_keys`](crate::Map::into_keys).
     IntoKeys<>: IntoIter, K, 0;
-    /// The values that are left of a map that was given away. [`Map::into_values`](crate::Map::into_values) makes
-    /// it.
+    /// An owning iterator over a map's values. Created by [`Map::into_values`](crate::Map::into_values).
     IntoValues<>: IntoIter, V, 1;
 }
 

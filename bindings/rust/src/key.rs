@@ -8,24 +8,24 @@ use std::sync::Arc;
 pub(crate) mod sealed {
     use crate::NoMemory;
 
-    /// A key as it crosses to the library.
+    /// A key as it is passed to the library.
     #[derive(Clone, Copy)]
     pub enum Form<'a> {
         Word(u64),
         Bytes(&'a [u8]),
     }
 
-    /// Two values of one type are equal exactly if their forms are, and a key's form is that of what it lends
-    /// by `Borrow`.
+    /// Two values of one type are equal exactly if their forms are, and a key's form is that of what it is borrowed
+    /// as.
     pub trait Formed {
-        /// Whether each form is one of bytes; else each is a word.
+        /// Whether each form consists of bytes; otherwise each is a word.
         const IS_TEXT: bool;
 
         fn form(&self) -> Form<'_>;
     }
 
     pub trait Stored: Formed + Sized {
-        /// A copy, without an abort where an allocation fails.
+        /// A copy that returns an error, instead of aborting, if an allocation fails.
         fn try_copy(&self) -> Result<Self, NoMemory>;
     }
 }
@@ -50,7 +50,7 @@ use sealed::{Form, Formed, Stored};
 /// ```
 pub trait Key: KeyForm + Stored {}
 
-/// What a key is looked up by: the key's own type, or a type that it can be borrowed as (`K: Borrow<Q>`), as
+/// A type that a key is looked up by: the key's own type, or one that it can be borrowed as (`K: Borrow<Q>`), such as
 /// `str` for a `String` and `[u8]` for a `Vec<u8>`.
 ///
 /// ```
@@ -82,7 +82,7 @@ macro_rules! words {
     )* };
 }
 
-// One with a sign goes as two's complement.
+// A signed integer is passed as two's complement.
 words!(u8, u16, u32, u64, usize, i8, i16, i32, i64, isize, bool, char);
 
 macro_rules! texts {

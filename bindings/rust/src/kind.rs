@@ -4,32 +4,32 @@ use crate::ffi::*;
 use crate::key::sealed::Form;
 use crate::Seed;
 
-/// The calls that both families have. On a closed handle each answers `CLOSED`.
+/// The calls that both families have. On a closed handle each returns `CLOSED`.
 pub(crate) trait Kind: Copy {
     /// Opens a closed handle.
     fn open(self, is_text: bool, handle: &mut Handle, seed: Seed) -> u32;
-    /// Writes a key's value out, and touches no pair.
+    /// Outputs a key's value, and touches no pair.
     fn find(handle: &Handle, key: Form<'_>, value: &mut u64) -> u32;
     fn contains(handle: &Handle, key: Form<'_>) -> u32;
-    /// Removes a pair, and writes its value out.
+    /// Removes a pair, and outputs its value.
     fn remove(handle: &mut Handle, key: Form<'_>, value: &mut u64) -> u32;
 }
 
-/// Maps, whose first array has room for so many pairs.
+/// Maps, whose first array has room for that many pairs.
 #[derive(Clone, Copy)]
 pub(crate) struct Maps {
     pub capacity: usize,
 }
 
-/// Caches of at least and at most so many slots.
+/// Caches with a minimum and a maximum number of slots.
 #[derive(Clone, Copy)]
 pub(crate) struct Caches {
     pub minimum: usize,
     pub maximum: usize,
 }
 
-// SAFETY, of each call: a declaration fits its export, a handle is closed or was opened by the library, a
-// pointer and a length are those of a slice, and an output is a value of its own.
+// SAFETY, for each call: a declaration matches its export, a handle is closed or was opened by the library, a pointer
+// and a length are those of a slice, and an output is a separate value.
 
 impl Kind for Maps {
     fn open(self, is_text: bool, handle: &mut Handle, seed: Seed) -> u32 {
@@ -65,7 +65,7 @@ impl Kind for Maps {
 }
 
 impl Maps {
-    /// `OK`: the pair is inserted; `PRESENT`: the key was there, and its value is written out.
+    /// `OK`: the pair is inserted; `PRESENT`: the key was present, and its value is output.
     #[inline(always)]
     pub fn get_or_insert(handle: &mut Handle, key: Form<'_>, value: u64, held: &mut u64) -> u32 {
         match key {
@@ -110,7 +110,7 @@ impl Kind for Caches {
     }
 }
 
-/// Where the key of a pair that goes is written: nowhere, since its node has it.
+/// The output for the key of an evicted pair: none, since its node has it.
 struct Gone {
     word: u64,
     byte: u8,
@@ -122,7 +122,7 @@ impl Gone {
 }
 
 impl Caches {
-    /// Writes a key's value out, and touches its pair.
+    /// Outputs a key's value, and touches its pair.
     #[inline(always)]
     pub fn touch(handle: &mut Handle, key: Form<'_>, value: &mut u64) -> u32 {
         match key {
@@ -131,8 +131,8 @@ impl Caches {
         }
     }
 
-    /// `OK`: the pair is put; `EVICTED`: and the value of the pair that went is written out; `PRESENT`: it isn't
-    /// put, since the key is there.
+    /// `OK`: the pair is put; `EVICTED`: the same, and the value of the evicted pair is output; `PRESENT`: it isn't
+    /// put, since the key is present.
     #[inline(always)]
     pub fn put(handle: &mut Handle, key: Form<'_>, value: u64, before: &mut u64) -> u32 {
         let mut gone = Gone::NONE;
@@ -144,7 +144,7 @@ impl Caches {
         }
     }
 
-    /// The same, but `PRESENT`: the value is the key's now, and its earlier one is written out.
+    /// The same, but `PRESENT`: the value is now the key's, and its earlier one is output.
     #[inline(always)]
     pub fn upsert(handle: &mut Handle, key: Form<'_>, value: u64, before: &mut u64) -> u32 {
         let mut gone = Gone::NONE;

@@ -13,33 +13,33 @@
 //! # Ok::<(), bucket::NoMemory>(())
 //! ```
 //!
-//! [`Map<K, V>`](Map) and [`Set<K>`](Set) have the calls of std's `HashMap` and `HashSet`, and [`Cache<K, V>`](Cache)
-//! is bounded: a full bucket of it evicts what was touched longest ago there. A key is an integer of up to 64 bits, a
-//! string or bytes ([`Key`]); a value is of any type. Each pair stands in a block of its own, so references stay true
-//! while the table grows, and nothing but the block is moved.
+//! [`Map<K, V>`](Map) and [`Set<K>`](Set) have the calls of std's `HashMap` and `HashSet`. [`Cache<K, V>`](Cache) is
+//! bounded: a full bucket evicts its pair that was touched longest ago. A key is an integer of up to 64 bits, a
+//! string or bytes ([`Key`]); a value is of any type. Each pair is stored in a heap block of its own, so references
+//! stay valid while the table grows, and the pair itself isn't moved.
 //!
 //! # Memory
 //!
-//! A call that takes memory and can say so answers a `Result`; `Err(`[`NoMemory`]`)` has changed nothing. What it
-//! was to insert is dropped then, but `try_insert` hands it back. std's traits can't say so: `collect`, `extend`,
-//! `From`, `clone` and the operators of sets end in [`handle_alloc_error`](std::alloc::handle_alloc_error), as std's
-//! maps do, and `try_from_iter`, `try_extend` and `try_clone` stand beside them. No iterator and no removal takes
-//! memory.
+//! A call that allocates and can report it returns a `Result`; after `Err(`[`NoMemory`]`)` nothing has changed. What
+//! was to be inserted is dropped then, but `try_insert` returns it. std's traits can't report it: `collect`,
+//! `extend`, `From`, `clone` and the operators of sets call [`handle_alloc_error`](std::alloc::handle_alloc_error),
+//! as std's maps do; `try_from_iter`, `try_extend` and `try_clone` return a `Result`. No iterator and no removal
+//! allocates.
 //!
 //! # What differs from std
 //!
-//! - `insert`, `reserve`, `shrink_to_fit` and `or_insert` and its like answer a `Result`.
-//! - A map counts slots as its [`capacity`](Map::capacity), and [`clear`](Map::clear) and [`drain`](Map::drain) give the
-//!   slots up. With [`with_capacity`](Map::with_capacity) the first insertion makes them, so it can't fail.
-//! - In place of a hasher there is a [`Seed`]: a random one by default, as std's.
-//! - [`retain`](Map::retain) drops what goes after it has asked for all pairs.
-//! - A value that panics as it is dropped keeps no other one from being dropped.
+//! - `insert`, `reserve`, `shrink_to_fit`, `or_insert` and the like return a `Result`.
+//! - A map's [`capacity`](Map::capacity) is its number of slots, and [`clear`](Map::clear) and [`drain`](Map::drain) free
+//!   them. [`with_capacity`](Map::with_capacity) can't fail, since the first insertion allocates the slots.
+//! - A [`Seed`] takes the place of a hasher; it is random by default, as in std.
+//! - [`retain`](Map::retain) drops the removed pairs after it has called its closure for all.
+//! - If dropping a value panics, the others are still dropped.
 //!
 //! # Threads
 //!
-//! A collection may go to another thread if its keys and values may, but two threads can't look at it at once: it
-//! isn't `Sync`, since the library takes one call at a time on a table, look-ups too. A `Mutex` shares it, and since
-//! `Map::new` is `const`, also a static one:
+//! A collection may be sent to another thread if its keys and values may, but two threads can't read it at once: it
+//! isn't `Sync`, since the library takes one call at a time on a table, look-ups too. A `Mutex` shares it. Since
+//! `Map::new` is `const`, this also works for a static one:
 //!
 //! ```
 //! use bucket::Map;
@@ -62,9 +62,9 @@
 //!
 //! # Proved, and not
 //!
-//! That the table answers as `bucket.h` says is proved, also where allocations fail. The declarations of its calls are
-//! compared with the header by a test. The `unsafe` of this crate, which lets nodes go to the table and takes them
-//! back, is tested alone: beside std's maps, with each allocation refused in turn, with values that panic, and under
+//! It is proved that the table behaves as `bucket.h` says, also if allocations fail. A test compares the declarations
+//! of its calls with the header. The `unsafe` code of this crate, which passes nodes to the table and takes them
+//! back, is only tested: against std's maps, with each allocation failing in turn, with values that panic, and under
 //! valgrind.
 #![deny(missing_docs)]
 
@@ -88,18 +88,18 @@ pub use map::{Entry, Map};
 pub use seed::Seed;
 pub use set::Set;
 
-/// The program of the package's page.
+/// The program on the package's page.
 #[cfg(doctest)]
 #[doc = include_str!("../README.md")]
 struct Readme;
 
-/// The version of the library that is linked: major, minor, patch.
+/// Returns the version of the linked library: major, minor, patch.
 ///
 /// ```
 /// assert_eq!(bucket::library_version(), (0, 2, 0));
 /// ```
 pub fn library_version() -> (u32, u32, u32) {
-    // SAFETY: the call takes nothing.
+    // SAFETY: the call takes no arguments.
     let version = unsafe { ffi::bucket_version() };
     (version >> 16, version >> 8 & 0xff, version & 0xff)
 }

@@ -15,7 +15,7 @@ use crate::kind::Maps;
 use crate::table::Table;
 use crate::{Key, NoMemory, Seed};
 
-/// A hash map, as std's `HashMap`.
+/// A hash map, like std's `HashMap`.
 ///
 /// ```
 /// use bucket::Map;
@@ -30,10 +30,10 @@ use crate::{Key, NoMemory, Seed};
 /// # Ok::<(), bucket::NoMemory>(())
 /// ```
 ///
-/// It is `Send`, if its keys and values are, and not `Sync`, since the library takes one call at a time on a table,
+/// It is `Send` if its keys and values are, but not `Sync`, since the library takes one call at a time on a table,
 /// look-ups too. Threads share one in a [`Mutex`](crate#threads).
 ///
-/// It may outlive what its values borrow, unless their `Drop` looks at it:
+/// It may outlive what its values borrow, unless their `Drop` accesses it:
 ///
 /// ```
 /// let mut map = bucket::Map::new();
@@ -59,7 +59,7 @@ pub struct Map<K, V> {
 }
 
 impl<K, V> Map<K, V> {
-    /// An empty map that hashes by a random seed. Takes no memory: the first insertion does.
+    /// An empty map that hashes with a random seed. Allocates nothing: the first insertion does.
     ///
     /// ```
     /// use bucket::Map;
@@ -72,8 +72,8 @@ impl<K, V> Map<K, V> {
         Map { table: Table::new(Maps { capacity: 0 }, None) }
     }
 
-    /// An empty map whose first insertion makes room for so many pairs. Takes no memory;
-    /// [`reserve`](Map::reserve) takes it at once.
+    /// An empty map whose first insertion allocates room for that many pairs. Allocates nothing;
+    /// [`reserve`](Map::reserve) allocates at once.
     ///
     /// ```
     /// use bucket::Map;
@@ -85,20 +85,20 @@ impl<K, V> Map<K, V> {
         Map { table: Table::new(Maps { capacity }, None) }
     }
 
-    /// An empty map that hashes by this seed. Takes no memory.
+    /// An empty map that hashes with this seed. Allocates nothing.
     ///
     /// ```
     /// use bucket::{Map, Seed};
     ///
-    /// let map: Map<u64, u64> = Map::with_seed(Seed::FIXED); // for keys that no enemy chooses
+    /// let map: Map<u64, u64> = Map::with_seed(Seed::FIXED); // for keys that no attacker chooses
     /// assert!(map.is_empty());
     /// ```
     pub const fn with_seed(seed: Seed) -> Map<K, V> {
         Map::with_capacity_and_seed(0, seed)
     }
 
-    /// An empty map that hashes by this seed, and whose first insertion makes room for so many pairs. Takes no
-    /// memory.
+    /// An empty map that hashes with this seed, and whose first insertion allocates room for that many pairs.
+    /// Allocates nothing.
     ///
     /// ```
     /// use bucket::{Map, Seed};
@@ -112,7 +112,7 @@ impl<K, V> Map<K, V> {
 }
 
 impl<K: Key, V> Map<K, V> {
-    /// A map of these pairs, by a random seed; of two with one key, the later value.
+    /// Returns a map of these pairs, with a random seed; if two have the same key, the later value stays.
     ///
     /// # Errors
     ///
@@ -135,8 +135,8 @@ impl<K: Key, V> Map<K, V> {
     ///
     /// # Errors
     ///
-    /// An allocation failed: the pairs before that one are in, it is dropped, and those behind it weren't asked
-    /// for.
+    /// An allocation failed: the pairs before that one are inserted, that one is dropped, and those after it weren't
+    /// requested.
     ///
     /// ```
     /// use bucket::Map;
@@ -148,17 +148,17 @@ impl<K: Key, V> Map<K, V> {
     /// ```
     pub fn try_extend(&mut self, pairs: impl IntoIterator<Item = (K, V)>) -> Result<(), NoMemory> {
         let mut pairs = pairs.into_iter();
-        // As std does: pairs that come to a map that isn't empty may have keys that are there.
+        // As std does: pairs inserted into a map that isn't empty may have keys that are present.
         let least = pairs.size_hint().0;
         let room = if self.is_empty() { least } else { least.div_ceil(2) };
         if room > 0 {
-            // Where there is no such room, the pairs may still find theirs.
+            // Even without that room, the pairs may fit.
             let _ = self.reserve(room);
         }
         pairs.try_for_each(|(key, value)| self.insert(key, value).map(drop))
     }
 
-    /// A copy of the map, by the same seed, or a random one if it has that.
+    /// Returns a copy of the map, with the same seed, or with a random one if its seed is random.
     ///
     /// # Errors
     ///
@@ -183,11 +183,11 @@ impl<K: Key, V> Map<K, V> {
         Ok(copy)
     }
 
-    /// Makes room for so many more pairs. O(slots).
+    /// Makes room for that many more pairs. O(slots).
     ///
     /// # Errors
     ///
-    /// An allocation failed, or no array has so many slots; the pairs are as they were.
+    /// An allocation failed, or no array can have so many slots; the pairs are as they were.
     ///
     /// ```
     /// use bucket::{Map, NoMemory};
@@ -201,11 +201,11 @@ impl<K: Key, V> Map<K, V> {
         self.table.reserve(additional)
     }
 
-    /// The same as [`reserve`](Map::reserve), by the name that std has for a call that may fail.
+    /// The same as [`reserve`](Map::reserve), under std's name for a call that may fail.
     ///
     /// # Errors
     ///
-    /// An allocation failed, or no array has so many slots; the pairs are as they were.
+    /// An allocation failed, or no array can have so many slots; the pairs are as they were.
     ///
     /// ```
     /// use bucket::Map;
@@ -217,7 +217,7 @@ impl<K: Key, V> Map<K, V> {
         self.table.reserve(additional)
     }
 
-    /// Leaves as few slots as the pairs take, and forgets the room that `with_capacity` asked for. O(slots).
+    /// Leaves as few slots as the pairs need, and forgets the room that `with_capacity` asked for. O(slots).
     ///
     /// # Errors
     ///
@@ -236,10 +236,10 @@ impl<K: Key, V> Map<K, V> {
         self.table.shrink_to_fit()
     }
 
-    /// Leaves as few slots as so many pairs take, if there are more; at least as many as the pairs that there are
-    /// take. A map without a pair gives its slots up, and the first insertion makes room for so many: that takes no
-    /// memory. Else the slots become as few as the pairs take, and then as many as are asked for, so all pairs may be
-    /// moved twice. O(slots).
+    /// Leaves as few slots as that many pairs need, if there are more, but at least as many as the present pairs
+    /// need. A map without pairs frees its slots, and the first insertion allocates the room: the call allocates
+    /// nothing then. Otherwise the slots become as few as the present pairs need, and then as many as are asked for,
+    /// so all pairs may be moved twice. O(slots).
     ///
     /// # Errors
     ///
@@ -272,8 +272,8 @@ impl<K: Key, V> Map<K, V> {
 }
 
 impl<K, V> Map<K, V> {
-    /// How many slots there are, or will be as the first pair is inserted. An insertion may make more before each
-    /// slot has a pair. O(1).
+    /// Returns the number of slots, or how many there will be when the first pair is inserted. An insertion may
+    /// allocate more before each slot has a pair. O(1).
     ///
     /// ```
     /// use bucket::Map;
@@ -287,7 +287,7 @@ impl<K, V> Map<K, V> {
         self.table.slots().max(self.table.kind.capacity)
     }
 
-    /// How many pairs. O(1).
+    /// Returns the number of pairs. O(1).
     ///
     /// ```
     /// assert_eq!(bucket::Map::from([(1, 'a'), (2, 'b')]).len(), 2);
@@ -296,7 +296,7 @@ impl<K, V> Map<K, V> {
         self.table.len()
     }
 
-    /// Whether there is no pair. O(1).
+    /// Returns `true` if there are no pairs. O(1).
     ///
     /// ```
     /// assert!(bucket::Map::<u64, u64>::new().is_empty());

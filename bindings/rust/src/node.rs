@@ -1,4 +1,4 @@
-//! The nodes that pairs stand in, and the reading of all of them.
+//! The nodes that store pairs, and reading all of them.
 
 use crate::ffi::{Handle, Pair, Place};
 use std::alloc::{alloc, Layout};
@@ -8,16 +8,16 @@ use std::panic::{catch_unwind, resume_unwind, AssertUnwindSafe};
 use std::ptr::with_exposed_provenance_mut;
 use std::thread::panicking;
 
-/// A pair on the heap. Its address is the value that the table has at the key.
+/// A pair on the heap. Its address is the value that the table stores under the key.
 pub(crate) struct Node<K, V> {
     pub key: K,
     pub value: V,
-    /// The address of the next node of a [`List`]; it means nothing outside of one.
+    /// The address of the next node of a [`List`]; it is meaningless outside of one.
     link: u64,
 }
 
 impl<K, V> Node<K, V> {
-    /// A node of a pair; the pair comes back if the allocation fails.
+    /// Allocates a node for a pair; returns the pair if the allocation fails.
     #[inline]
     pub fn new(key: K, value: V) -> Result<Box<Node<K, V>>, (K, V)> {
         // SAFETY: a node isn't of size 0, since it has a link.
@@ -25,14 +25,14 @@ impl<K, V> Node<K, V> {
         if node.is_null() {
             return Err((key, value));
         }
-        // SAFETY: the block is new, and of a node's layout by the allocator that a box has.
+        // SAFETY: the block is new, and has a node's layout, from the allocator that a box uses.
         unsafe {
             node.write(Node { key, value, link: 0 });
             Ok(Box::from_raw(node))
         }
     }
 
-    /// Lets a node go to a table, as its address.
+    /// Releases a node to a table, as its address.
     #[inline(always)]
     pub fn into_address(node: Box<Node<K, V>>) -> u64 {
         Box::into_raw(node).expose_provenance() as u64
@@ -44,7 +44,7 @@ impl<K, V> Node<K, V> {
     }
 }
 
-/// The node at an address, which `into_address` gave.
+/// The node at an address that `into_address` returned.
 #[inline(always)]
 pub(crate) fn at<K, V>(address: u64) -> *mut Node<K, V> {
     with_exposed_provenance_mut(address as usize)
@@ -54,18 +54,18 @@ pub(crate) fn at<K, V>(address: u64) -> *mut Node<K, V> {
 ///
 /// # Safety
 ///
-/// `into_address` gave the address, for a node of this type, and it isn't used again.
+/// `into_address` returned the address, for a node of this type, and it isn't used again.
 #[inline(always)]
 pub(crate) unsafe fn take_back<K, V>(address: u64) -> Box<Node<K, V>> {
     unsafe { Box::from_raw(at(address)) }
 }
 
-/// Frees a node, as `take_back` asks for it.
+/// Frees a node, under the conditions of `take_back`.
 pub(crate) unsafe fn free<K, V>(address: u64) {
     drop(unsafe { take_back::<K, V>(address) })
 }
 
-/// A list of nodes that stand in a table, linked by the nodes themselves. It takes no memory.
+/// A list of nodes that are in a table, linked by the nodes themselves. It allocates nothing.
 pub(crate) struct List<K, V> {
     first: u64,
     pairs: PhantomData<(K, V)>,
@@ -76,7 +76,7 @@ impl<K, V> List<K, V> {
 
     /// # Safety
     ///
-    /// The address is that of a node of this type, which is lent to nobody, and stays until it is popped.
+    /// The address is that of a node of this type, which isn't borrowed, and stays until it is popped.
     pub unsafe fn push(&mut self, address: u64) {
         unsafe { (*at::<K, V>(address)).link = self.first };
         self.first = address;
@@ -87,7 +87,7 @@ impl<K, V> List<K, V> {
         if address == 0 {
             return None;
         }
-        // SAFETY: `push` says that the node is there.
+        // SAFETY: the caller of `push` ensures that the node exists.
         self.first = unsafe { (*at::<K, V>(address)).link };
         Some(address)
     }
@@ -96,13 +96,13 @@ impl<K, V> List<K, V> {
 /// How many pairs are read at a time; their values are the addresses.
 const PIECE: usize = 64;
 
-/// A reading of the addresses of all nodes of a table that nobody changes. It takes no memory. All of it
-/// together is O(slots).
+/// Reads the addresses of all nodes of a table that nobody changes. It allocates nothing. All steps together are
+/// O(slots).
 #[derive(Clone)]
 pub(crate) struct Walk {
     place: Place,
     piece: [Pair; PIECE],
-    /// Where the addresses that are left stand in the piece.
+    /// The range of the piece that holds the remaining addresses.
     next: usize,
     end: usize,
 }
@@ -112,7 +112,7 @@ impl Walk {
         Walk { place: Place::START, piece: [Pair::NONE; PIECE], next: 0, end: 0 }
     }
 
-    /// The next address. The handle is the same at each call, and the table unchanged.
+    /// Returns the next address. The handle must be the same at each call, and the table unchanged.
     #[inline]
     pub fn next(&mut self, handle: &Handle) -> Option<u64> {
         if self.next == self.end {
@@ -129,8 +129,8 @@ impl Walk {
     }
 }
 
-/// Calls `act` for each of what `next` gives, also after one that panics. The first panic goes on then, unless
-/// another one is on its way, where a second would abort the process.
+/// Calls `act` for each item that `next` returns, even after one that panics. Then the first panic continues, unless
+/// another one is in progress, when a second would abort the process.
 pub(crate) fn for_all<T>(mut next: impl FnMut() -> Option<T>, mut act: impl FnMut(T)) {
     let mut first = None;
     loop {
@@ -150,15 +150,15 @@ pub(crate) fn for_all<T>(mut next: impl FnMut() -> Option<T>, mut act: impl FnMu
     }
 }
 
-/// A handle and the nodes that stand in its table, which are freed with it. It doesn't name their type, so
-/// that a collection may outlive what its values borrow, as std's may.
+/// A handle and the nodes in its table, which are freed with it. It doesn't name their type, so that a collection may
+/// outlive what its values borrow, as std's may.
 pub(crate) struct Held {
     pub handle: Handle,
     free: unsafe fn(u64),
 }
 
 impl Held {
-    /// A closed handle for nodes of this type.
+    /// Returns a closed handle for nodes of this type.
     pub const fn closed<K, V>() -> Held {
         Held { handle: Handle::CLOSED, free: free::<K, V> }
     }
@@ -175,7 +175,7 @@ impl Drop for Held {
     }
 }
 
-/// A table that nobody looks up in any more, and those of its nodes that are left. They are freed with it.
+/// A table that is no longer looked up in, and its remaining nodes. They are freed with it.
 pub(crate) struct Rest {
     pub handle: Handle,
     pub walk: Walk,
@@ -183,7 +183,7 @@ pub(crate) struct Rest {
 }
 
 impl Rest {
-    /// The address of the next node, which is the caller's now.
+    /// Returns the address of the next node, which the caller then owns.
     #[inline]
     pub fn next(&mut self) -> Option<u64> {
         self.walk.next(&self.handle)

@@ -6,12 +6,11 @@ use std::hash::BuildHasher;
 
 /// How keys are hashed: by SipHash-1-3 with two secret keys, or by a faster hash without a key.
 ///
-/// It is printed as `Seed(..)`, so that no log tells the secret.
+/// It is printed as `Seed(..)`, so that no log shows the secret.
 ///
-/// A map or a set gives its pairs in the order of their hashes. So a loop that inserts them into
-/// another one of the same seed takes up to O(n * n), unless that one reserves first, and a
-/// [`Cache`](crate::Cache) of that seed evicts most of them. `clone`, `extend` and `collect`
-/// reserve, and random seeds differ.
+/// A map or a set yields its pairs in the order of their hashes. So a loop that inserts them into another one with
+/// the same seed takes up to O(n * n), unless that one reserves first, and a [`Cache`](crate::Cache) with that seed
+/// evicts most of them. `clone`, `extend` and `collect` reserve, and random seeds differ.
 ///
 /// ```
 /// use bucket::{Map, Seed};
@@ -29,7 +28,7 @@ pub struct Seed {
 }
 
 impl Seed {
-    /// The faster hash, the same in each run. Keys that an enemy chooses can be made to meet in one bucket.
+    /// The faster hash, the same in each run. An attacker can choose keys that collide in one bucket.
     ///
     /// ```
     /// use bucket::{Seed, Set};
@@ -39,7 +38,7 @@ impl Seed {
     /// ```
     pub const FIXED: Seed = Seed::from_bytes([0; 16]);
 
-    /// A seed that is drawn from the secret keys of std's maps. It isn't `FIXED`.
+    /// Returns a seed drawn from the secret keys of std's maps. It isn't `FIXED`.
     ///
     /// ```
     /// use bucket::Seed;
@@ -51,7 +50,7 @@ impl Seed {
         Seed { key0: keys.hash_one(0) | 1, key1: keys.hash_one(1) }
     }
 
-    /// The seed of 16 bytes: each key is eight of them, the least significant first. If all are 0, it is
+    /// Returns the seed of 16 bytes: each key is eight of them, the least significant first. If all are 0, it is
     /// `FIXED`.
     ///
     /// ```

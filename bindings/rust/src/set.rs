@@ -12,7 +12,7 @@ use crate::{Key, KeyForm, NoMemory, Seed};
 use std::borrow::Borrow;
 use std::mem::replace;
 
-/// A hash set, as std's `HashSet`.
+/// A hash set, like std's `HashSet`.
 ///
 /// ```
 /// use bucket::Set;
@@ -28,7 +28,7 @@ pub struct Set<K> {
 }
 
 impl<K> Set<K> {
-    /// An empty set that hashes by a random seed. Takes no memory: the first insertion does.
+    /// An empty set that hashes with a random seed. Allocates nothing: the first insertion does.
     ///
     /// ```
     /// let set: bucket::Set<u64> = bucket::Set::new();
@@ -38,8 +38,8 @@ impl<K> Set<K> {
         Set { map: Map::new() }
     }
 
-    /// An empty set whose first insertion makes room for so many keys. Takes no memory; [`reserve`](Set::reserve)
-    /// takes it at once.
+    /// An empty set whose first insertion allocates room for that many keys. Allocates nothing;
+    /// [`reserve`](Set::reserve) allocates at once.
     ///
     /// ```
     /// let set: bucket::Set<u64> = bucket::Set::with_capacity(100);
@@ -49,19 +49,20 @@ impl<K> Set<K> {
         Set { map: Map::with_capacity(capacity) }
     }
 
-    /// An empty set that hashes by this seed. Takes no memory.
+    /// An empty set that hashes with this seed. Allocates nothing.
     ///
     /// ```
     /// use bucket::{Seed, Set};
     ///
-    /// let set: Set<u64> = Set::with_seed(Seed::FIXED); // for keys that no enemy chooses
+    /// let set: Set<u64> = Set::with_seed(Seed::FIXED); // for keys that no attacker chooses
     /// assert!(set.is_empty());
     /// ```
     pub const fn with_seed(seed: Seed) -> Set<K> {
         Set { map: Map::with_seed(seed) }
     }
 
-    /// An empty set that hashes by this seed, and whose first insertion makes room for so many keys. Takes no memory.
+    /// An empty set that hashes with this seed, and whose first insertion allocates room for that many keys.
+    /// Allocates nothing.
     ///
     /// ```
     /// use bucket::{Seed, Set};
@@ -75,7 +76,7 @@ impl<K> Set<K> {
 }
 
 impl<K: Key> Set<K> {
-    /// A set of these keys, by a random seed; of equal ones, the first.
+    /// Returns a set of these keys, with a random seed; of equal keys the first stays.
     ///
     /// # Errors
     ///
@@ -95,7 +96,8 @@ impl<K: Key> Set<K> {
     ///
     /// # Errors
     ///
-    /// An allocation failed: the keys before that one are in, it is dropped, and those behind it weren't asked for.
+    /// An allocation failed: the keys before that one are inserted, that one is dropped, and those after it weren't
+    /// requested.
     ///
     /// ```
     /// let mut set = bucket::Set::new();
@@ -107,7 +109,7 @@ impl<K: Key> Set<K> {
         self.map.try_extend(keys.into_iter().map(|key| (key, ())))
     }
 
-    /// A copy of the set, by the same seed, or a random one if it has that.
+    /// Returns a copy of the set, with the same seed, or with a random one if its seed is random.
     ///
     /// # Errors
     ///
@@ -122,7 +124,7 @@ impl<K: Key> Set<K> {
         self.map.try_clone().map(|map| Set { map })
     }
 
-    /// Whether a key is there. O(1).
+    /// Returns `true` if a key is present. O(1).
     ///
     /// ```
     /// assert!(bucket::Set::from(["Ann".to_string()]).contains("Ann"));
@@ -136,7 +138,7 @@ impl<K: Key> Set<K> {
         self.map.contains_key(key)
     }
 
-    /// The key as it was inserted. O(1).
+    /// Returns the key as it was inserted. O(1).
     ///
     /// ```
     /// assert_eq!(bucket::Set::from(["Ann".to_string()]).get("Ann"), Some(&"Ann".to_string()));
@@ -150,8 +152,8 @@ impl<K: Key> Set<K> {
         self.map.get_key_value(key).map(|(key, ())| key)
     }
 
-    /// Inserts a key, and returns whether it was absent. One that is there stays as it is, and needs no memory.
-    /// O(1).
+    /// Inserts a key, and returns whether it was absent. A key that is present stays, and the call then allocates
+    /// nothing. O(1).
     ///
     /// # Errors
     ///
@@ -167,11 +169,11 @@ impl<K: Key> Set<K> {
         Ok(self.map.insert(key, ())?.is_none())
     }
 
-    /// Puts a key in the place of an equal one, which is returned. O(1).
+    /// Inserts a key in place of an equal one, which is returned. O(1).
     ///
     /// # Errors
     ///
-    /// An allocation failed: the set is as it was, and the key is dropped. It can't fail if the key is there.
+    /// An allocation failed: the set is as it was, and the key is dropped. It can't fail if the key is present.
     ///
     /// ```
     /// let mut set = bucket::Set::new();
@@ -187,11 +189,11 @@ impl<K: Key> Set<K> {
         Ok(None)
     }
 
-    /// The key that is there, or this one, which is inserted. O(1).
+    /// Returns the key that is present, or inserts this one and returns it. O(1).
     ///
     /// # Errors
     ///
-    /// An allocation failed: the set is as it was, and the key is dropped. It can't fail if the key is there.
+    /// An allocation failed: the set is as it was, and the key is dropped. It can't fail if the key is present.
     ///
     /// ```
     /// let mut set = bucket::Set::new();
@@ -205,7 +207,7 @@ impl<K: Key> Set<K> {
         }
     }
 
-    /// Removes a key, and returns whether it was there. Takes no memory. O(1).
+    /// Removes a key, and returns whether it was present. Allocates nothing. O(1).
     ///
     /// ```
     /// let mut set = bucket::Set::from([7]);
@@ -220,7 +222,7 @@ impl<K: Key> Set<K> {
         self.map.remove(key).is_some()
     }
 
-    /// Removes a key, and returns it. Takes no memory. O(1).
+    /// Removes a key, and returns it. Allocates nothing. O(1).
     ///
     /// ```
     /// let mut set = bucket::Set::from(["Ann".to_string()]);
@@ -235,8 +237,8 @@ impl<K: Key> Set<K> {
         self.map.remove_entry(key).map(|(key, ())| key)
     }
 
-    /// Keeps the keys that `keeps` says yes to, and drops the others, once it has been asked for all. Takes no
-    /// memory. O(slots).
+    /// Keeps the keys for which `keeps` returns `true`, and drops the others, once it has been called for all.
+    /// Allocates nothing. O(slots).
     ///
     /// ```
     /// let mut set: bucket::Set<u32> = (0..8).collect();
@@ -247,8 +249,8 @@ impl<K: Key> Set<K> {
         self.map.retain(|key, ()| keeps(key))
     }
 
-    /// Removes and hands out the keys that `takes` says yes to, one a step. A key that it wasn't asked for stays.
-    /// Takes no memory. O(slots).
+    /// Removes and returns the keys for which `takes` returns `true`, one per step. A key for which it wasn't called
+    /// stays. Allocates nothing. O(slots).
     ///
     /// ```
     /// let mut set: bucket::Set<u32> = (0..8).collect();
@@ -259,11 +261,11 @@ impl<K: Key> Set<K> {
         ExtractIf::new(&mut self.map, takes)
     }
 
-    /// Makes room for so many more keys. O(slots).
+    /// Makes room for that many more keys. O(slots).
     ///
     /// # Errors
     ///
-    /// An allocation failed, or no array has so many slots; the keys are as they were.
+    /// An allocation failed, or no array can have so many slots; the keys are as they were.
     ///
     /// ```
     /// let mut set = bucket::Set::from([1]);
@@ -275,11 +277,11 @@ impl<K: Key> Set<K> {
         self.map.reserve(additional)
     }
 
-    /// The same as [`reserve`](Set::reserve), by the name that std has for a call that may fail.
+    /// The same as [`reserve`](Set::reserve), under std's name for a call that may fail.
     ///
     /// # Errors
     ///
-    /// An allocation failed, or no array has so many slots; the keys are as they were.
+    /// An allocation failed, or no array can have so many slots; the keys are as they were.
     ///
     /// ```
     /// assert!(bucket::Set::<u64>::new().try_reserve(usize::MAX).is_err());
@@ -288,7 +290,7 @@ impl<K: Key> Set<K> {
         self.map.reserve(additional)
     }
 
-    /// Leaves as few slots as the keys take, and forgets the room that `with_capacity` asked for. O(slots).
+    /// Leaves as few slots as the keys need, and forgets the room that `with_capacity` asked for. O(slots).
     ///
     /// # Errors
     ///
@@ -305,10 +307,10 @@ impl<K: Key> Set<K> {
         self.map.shrink_to_fit()
     }
 
-    /// Leaves as few slots as so many keys take, if there are more; at least as many as the keys that there are take.
-    /// A set without a key gives its slots up, and the first insertion makes room for so many: that takes no memory.
-    /// Else the slots become as few as the keys take, and then as many as are asked for, so all keys may be moved
-    /// twice. O(slots).
+    /// Leaves as few slots as that many keys need, if there are more, but at least as many as the present keys need.
+    /// A set without keys frees its slots, and the first insertion allocates the room: the call allocates nothing
+    /// then. Otherwise the slots become as few as the present keys need, and then as many as are asked for, so all
+    /// keys may be moved twice. O(slots).
     ///
     /// # Errors
     ///
@@ -327,7 +329,7 @@ impl<K: Key> Set<K> {
 }
 
 impl<K> Set<K> {
-    /// How many slots there are, or will be as the first key is inserted. O(1).
+    /// Returns the number of slots, or how many there will be when the first key is inserted. O(1).
     ///
     /// ```
     /// assert!(bucket::Set::from([1, 2, 3]).capacity() >= 3);
@@ -336,7 +338,7 @@ impl<K> Set<K> {
         self.map.capacity()
     }
 
-    /// How many keys. O(1).
+    /// Returns the number of keys. O(1).
     ///
     /// ```
     /// assert_eq!(bucket::Set::from([1, 2, 1]).len(), 2);
@@ -345,7 +347,7 @@ impl<K> Set<K> {
         self.map.len()
     }
 
-    /// Whether there is no key. O(1).
+    /// Returns `true` if there are no keys. O(1).
     ///
     /// ```
     /// assert!(bucket::Set::<u64>::new().is_empty());
@@ -354,7 +356,8 @@ impl<K> Set<K> {
         self.map.is_empty()
     }
 
-    /// The keys, in no promised order. O(slots) for all of them, and takes no memory.
+    /// Returns an iterator over the keys, in no particular order. All steps together are O(slots), and allocate
+    /// nothing.
     ///
     /// ```
     /// assert_eq!(bucket::Set::from([1, 2, 3]).iter().sum::<i32>(), 6);
@@ -363,7 +366,7 @@ impl<K> Set<K> {
         Iter(self.map.keys())
     }
 
-    /// Hands all keys out. The set is empty from here on, and has no slots.
+    /// Removes all keys, and returns an iterator over them. The set is empty at once, and has no slots.
     ///
     /// ```
     /// let mut set = bucket::Set::from(["a"]);

@@ -8,28 +8,27 @@ use std::marker::PhantomData;
 use std::mem::replace;
 use std::panic::{catch_unwind, resume_unwind, AssertUnwindSafe};
 
-/// A table whose value at a key is the address of a node that has the key. The table owns the nodes, and each
-/// stands in it once.
+/// A table that stores the address of a node under the node's key. The table owns the nodes, and stores each once.
 pub(crate) struct Table<S, K, V> {
     held: Held,
     len: usize,
     pub kind: S,
-    /// None: a random one, drawn as the handle is opened.
+    /// None: a random one, drawn when the handle is opened.
     seed: Option<Seed>,
     pairs: PhantomData<(K, V)>,
 }
 
-/// What became of a node that was to be inserted.
+/// What happened to a node that was to be inserted.
 pub(crate) enum Placed<K, V> {
-    /// It is in; this is its address.
+    /// It was inserted; this is its address.
     Inserted(u64),
-    /// The key was there, at the node of this address.
+    /// The key is present, in the node at this address.
     Present(u64, Box<Node<K, V>>),
     /// An allocation failed.
     NoMemory(Box<Node<K, V>>),
 }
 
-/// The address of a node that was put, and the pair that went for it.
+/// The address of a node that was put, and the pair that left the cache for it.
 pub(crate) type Put<K, V> = (u64, Option<(K, V)>);
 
 impl<S, K, V> Table<S, K, V> {
@@ -51,13 +50,13 @@ impl<S, K, V> Table<S, K, V> {
         &mut self.held.handle
     }
 
-    /// Takes all nodes out. The table is empty then, and its handle closed.
+    /// Takes all nodes out. The table is then empty, and its handle closed.
     pub fn take(&mut self) -> Rest {
         self.len = 0;
         self.held.take()
     }
 
-    /// How many slots there are now.
+    /// Returns the current number of slots.
     pub fn slots(&self) -> usize {
         // SAFETY: as in `kind`, here and below.
         unsafe { bucket_capacity(&self.held.handle) }
@@ -74,7 +73,7 @@ impl<S: Kind, K: Key, V> Table<S, K, V> {
         }
     }
 
-    /// Makes a call, and once more where the handle was closed and could be opened.
+    /// Makes a call, and repeats it if the handle was closed and could be opened.
     #[inline(always)]
     fn call(&mut self, mut call: impl FnMut(&mut Handle) -> u32) -> u32 {
         match call(&mut self.held.handle) {
@@ -83,7 +82,7 @@ impl<S: Kind, K: Key, V> Table<S, K, V> {
         }
     }
 
-    /// The address of a key's node.
+    /// Returns the address of a key's node.
     #[inline]
     pub fn find<Q: ?Sized + KeyForm>(&self, key: &Q) -> Option<u64> {
         let mut address = 0;
@@ -97,7 +96,7 @@ impl<S: Kind, K: Key, V> Table<S, K, V> {
 
     #[inline]
     pub fn get<Q: ?Sized + KeyForm>(&self, key: &Q) -> Option<&Node<K, V>> {
-        // SAFETY: the node stands in the table, which is lent for as long.
+        // SAFETY: the node is in the table, which is borrowed for as long.
         self.find(key).map(|address| unsafe { &*at(address) })
     }
 
@@ -114,15 +113,15 @@ impl<S: Kind, K: Key, V> Table<S, K, V> {
             return None;
         }
         self.len -= 1;
-        // SAFETY: the node was the table's, which has it no more.
+        // SAFETY: the node was in the table, which no longer contains it.
         Some(unsafe { take_back(address) })
     }
 
-    /// Removes a node that stands in the table.
+    /// Removes a node that is in the table.
     ///
     /// # Safety
     ///
-    /// The address is that of such a node, and nothing of it is lent.
+    /// The address is that of such a node, and no part of it is borrowed.
     pub unsafe fn unlink(&mut self, address: u64) -> Box<Node<K, V>> {
         let mut held = 0;
         let code = S::remove(&mut self.held.handle, unsafe { (*at::<K, V>(address)).key.form() }, &mut held);
@@ -131,14 +130,14 @@ impl<S: Kind, K: Key, V> Table<S, K, V> {
         unsafe { take_back(address) }
     }
 
-    /// Keeps the nodes that `keeps` says yes to, and drops the others, as soon as it has said it of all. Where it
-    /// panics, those that it has said no to go.
+    /// Keeps the nodes for which `keeps` returns `true`, and drops the others, as soon as it has been called for all.
+    /// If it panics, those for which it returned `false` are removed.
     pub fn retain(&mut self, mut keeps: impl FnMut(&K, &mut V) -> bool) {
         let mut doomed = List::<K, V>::EMPTY;
         let mut walk = Walk::new();
         let asked = catch_unwind(AssertUnwindSafe(|| {
             while let Some(address) = walk.next(&self.held.handle) {
-                // SAFETY: the node stands in the table, comes once, and stays until it is popped below.
+                // SAFETY: the node is in the table, comes once, and stays until it is popped below.
                 unsafe {
                     let node = at::<K, V>(address);
                     if !keeps(&(*node).key, &mut (*node).value) {
@@ -147,14 +146,14 @@ impl<S: Kind, K: Key, V> Table<S, K, V> {
                 }
             }
         }));
-        // SAFETY: the node stands in the table.
+        // SAFETY: the node is in the table.
         for_all(|| doomed.pop(), |address| drop(unsafe { self.unlink(address) }));
         if let Err(panic) = asked {
             resume_unwind(panic);
         }
     }
 
-    /// Puts copies of all nodes of another table into this one, which is empty.
+    /// Inserts copies of all nodes of another table into this one, which is empty.
     pub fn copy_from(
         &mut self,
         other: &Table<S, K, V>,
@@ -165,26 +164,26 @@ impl<S: Kind, K: Key, V> Table<S, K, V> {
     {
         let mut walk = Walk::new();
         while let Some(address) = walk.next(&other.held.handle) {
-            // SAFETY: the node stands in the other table, which is lent.
+            // SAFETY: the node is in the other table, which is borrowed.
             let node = unsafe { &*at::<K, V>(address) };
             insert(self, node.key.try_copy()?, node.value.clone())?;
         }
         Ok(())
     }
 
-    /// An empty table of the same kind, seed and limits.
+    /// Returns an empty table of the same kind, seed and limits.
     pub fn like(&self) -> Table<S, K, V> {
         Table::new(self.kind, self.seed)
     }
 }
 
 impl<K: Key, V> Table<Maps, K, V> {
-    /// Inserts a node, unless its key is there.
+    /// Inserts a node, unless its key is present.
     #[inline]
     pub fn place(&mut self, node: Box<Node<K, V>>) -> Placed<K, V> {
         let address = Node::into_address(node);
         let mut held = 0;
-        // SAFETY: the node is there during the call, and is taken back unless it stands in the table then.
+        // SAFETY: the node exists during the call, and is taken back unless it is in the table afterwards.
         let key = unsafe { (*at::<K, V>(address)).key.form() };
         match self.call(|handle| Maps::get_or_insert(handle, key, address, &mut held)) {
             OK => {
@@ -196,7 +195,7 @@ impl<K: Key, V> Table<Maps, K, V> {
         }
     }
 
-    /// Inserts a pair whose key is absent, and returns its node's address; else the pair comes back.
+    /// Inserts a pair whose key is absent, and returns its node's address; otherwise returns the pair.
     #[inline]
     pub fn insert(&mut self, key: K, value: V) -> Result<u64, NotInserted<K, V>> {
         match Node::new(key, value).map(|node| self.place(node)) {
@@ -210,7 +209,7 @@ impl<K: Key, V> Table<Maps, K, V> {
         }
     }
 
-    /// Puts a value at a key, and returns the earlier one; a key that is there stays, and takes no memory.
+    /// Puts a value under a key, and returns the earlier one; a key that is present stays, and nothing is allocated.
     #[inline]
     pub fn upsert(&mut self, key: K, value: V) -> Result<Option<V>, NoMemory> {
         let (held, value) = match Node::new(key, value).map(|node| self.place(node)) {
@@ -219,7 +218,7 @@ impl<K: Key, V> Table<Maps, K, V> {
             Ok(Placed::Present(held, node)) => (held, node.into_pair().1),
             Err((key, value)) => (self.find(&key).ok_or(NoMemory)?, value),
         };
-        // SAFETY: the node stands in the table.
+        // SAFETY: the node is in the table.
         Ok(Some(replace(unsafe { &mut (*at::<K, V>(held)).value }, value)))
     }
 
@@ -231,7 +230,7 @@ impl<K: Key, V> Table<Maps, K, V> {
     }
 
     pub fn shrink_to_fit(&mut self) -> Result<(), NoMemory> {
-        // As the library's own, which is gone also where it fails.
+        // Like the library's own minimum, which is reset even if the call fails.
         self.kind.capacity = 0;
         match unsafe { bucket_shrink(&mut self.held.handle) } {
             OK | CLOSED => Ok(()),
@@ -241,22 +240,22 @@ impl<K: Key, V> Table<Maps, K, V> {
 }
 
 impl<K: Key, V> Table<Caches, K, V> {
-    /// The address of a key's node, which is touched.
+    /// Returns the address of a key's node, which is touched.
     #[inline]
     pub fn touch<Q: ?Sized + KeyForm>(&mut self, key: &Q) -> Option<u64> {
         let mut address = 0;
         (Caches::touch(&mut self.held.handle, key.form(), &mut address) == OK).then_some(address)
     }
 
-    /// Puts a pair, and returns the one that went: another, or the key's own earlier one. The pair comes back if
-    /// an allocation failed.
+    /// Puts a pair, and returns the one that left the cache: another one, or the key's own earlier one. Returns the
+    /// pair itself if an allocation failed.
     #[inline]
     pub fn put(&mut self, key: K, value: V) -> Result<Option<(K, V)>, (K, V)> {
         let node = match Node::new(key, value) {
             Ok(node) => node,
             Err((key, value)) => {
                 return match self.touch(&key) {
-                    // SAFETY: the node stands in the table.
+                    // SAFETY: the node is in the table.
                     Some(held) => Ok(Some((key, replace(unsafe { &mut (*at::<K, V>(held)).value }, value)))),
                     None => Err((key, value)),
                 }
@@ -264,7 +263,7 @@ impl<K: Key, V> Table<Caches, K, V> {
         };
         let address = Node::into_address(node);
         let mut before = 0;
-        // SAFETY: as in `place`; a node that went is the caller's.
+        // SAFETY: as in `place`; the caller owns a node that was evicted.
         let key = unsafe { (*at::<K, V>(address)).key.form() };
         match self.call(|handle| Caches::upsert(handle, key, address, &mut before)) {
             OK => {
@@ -276,7 +275,7 @@ impl<K: Key, V> Table<Caches, K, V> {
         }
     }
 
-    /// Puts a pair whose key is absent, and returns its node's address and the pair that was evicted.
+    /// Puts a pair whose key is absent, and returns its node's address and the evicted pair.
     #[inline]
     pub fn insert(&mut self, key: K, value: V) -> Result<Put<K, V>, NotInserted<K, V>> {
         let address = match Node::new(key, value) {
@@ -302,7 +301,7 @@ impl<K: Key, V> Table<Caches, K, V> {
     }
 }
 
-/// A list of all nodes of a table, to be asked one by one, and removed while others are left.
+/// A list of all nodes of a table, to be tested one by one, and removed while others are left.
 pub(crate) struct Sieve<'a, K, V> {
     table: &'a mut Table<Maps, K, V>,
     list: List<K, V>,
@@ -314,19 +313,19 @@ impl<'a, K: Key, V> Sieve<'a, K, V> {
         Sieve { table, list: List::EMPTY, is_listed: false }
     }
 
-    /// Removes the next node that `takes` says yes to. The first call links all nodes.
+    /// Removes the next node for which `takes` returns `true`. The first call links all nodes.
     pub fn next(&mut self, mut takes: impl FnMut(&K, &mut V) -> bool) -> Option<Box<Node<K, V>>> {
         if !self.is_listed {
             self.is_listed = true;
             let mut walk = Walk::new();
             while let Some(address) = walk.next(&self.table.held.handle) {
-                // SAFETY: the node stands in the table, which is lent to the sieve alone, and stays until it is popped.
+                // SAFETY: the node is in the table, which only the sieve borrows, and stays until it is popped.
                 unsafe { self.list.push(address) };
             }
         }
         while let Some(address) = self.list.pop() {
             let node = at::<K, V>(address);
-            // SAFETY: the node stands in the table, and nothing of it is lent.
+            // SAFETY: the node is in the table, and no part of it is borrowed.
             if unsafe { takes(&(*node).key, &mut (*node).value) } {
                 return Some(unsafe { self.table.unlink(address) });
             }

@@ -1,4 +1,4 @@
-//! The crate's calls beside those of std, by chance, with values that are counted.
+//! Random calls of the crate, checked against std's collections, with values that are counted.
 
 mod common;
 
@@ -9,7 +9,7 @@ use std::collections::{HashMap, HashSet};
 use std::fmt::Debug;
 use std::hash::Hash;
 
-/// A key by chance, one of some thousands.
+/// A random key, one of a few thousand.
 trait ByChance: Key + Clone + Eq + Hash + Debug {
     fn by_chance(chance: &mut Chance) -> Self;
 }
@@ -39,7 +39,7 @@ impl ByChance for Vec<u8> {
     }
 }
 
-/// A map beside std's, whose values have the same numbers.
+/// A map checked against std's, whose values have the same numbers.
 struct Both<K> {
     map: Map<K, Counted>,
     std: HashMap<K, u64>,
@@ -89,7 +89,7 @@ impl<K: ByChance> Both<K> {
         }
     }
 
-    /// A call that goes through all pairs, one of some sorts in turn.
+    /// A call that goes through all pairs, one of several kinds in turn.
     fn all(&mut self, turn: usize) {
         let Both { map, std, tally } = self;
         match turn % 6 {

@@ -1,4 +1,4 @@
-//! Caches evict, and lose nothing that they don't hand out.
+//! Caches evict, and return whatever they remove.
 
 mod common;
 
@@ -61,7 +61,7 @@ fn what_leaves_a_cache_is_handed_out() {
     }
 }
 
-/// Puts keys to a cache of 64 slots, reads the first of them by `read` after each, and returns whether it stayed.
+/// Puts keys into a cache of 64 slots, reads the first of them by `read` after each, and returns whether it stayed.
 fn stays(read: impl Fn(&mut Cache<u64, u64>)) -> bool {
     let mut cache = Cache::with_capacity_and_seed(64, 64, Seed::FIXED).unwrap();
     for number in 0..1000 {

@@ -7,7 +7,7 @@ use std::path::{Path, PathBuf};
 /// A call: the types that it takes, and what it returns.
 type Call = (Vec<String>, String);
 
-/// The types of C, and what Rust has for each.
+/// The types of C, and their counterparts in Rust.
 const TYPES: [(&str, &str); 15] = [
     ("void", ""),
     ("bool", "bool"),
@@ -26,7 +26,7 @@ const TYPES: [(&str, &str); 15] = [
     ("bucket_seed", "Seed"),
 ];
 
-/// The header that the environment names, the checkout's, or the package's.
+/// The header that the environment names, or the checkout's, or the package's.
 fn header() -> Option<String> {
     let package = Path::new(env!("CARGO_MANIFEST_DIR"));
     let named = std::env::var_os("BUCKET_INCLUDE").map(|folder| PathBuf::from(folder).join("bucket.h"));
@@ -61,7 +61,7 @@ fn as_rust(c: &str) -> String {
     rust.unwrap_or_else(|| c.to_string())
 }
 
-/// The prototypes of a header, in Rust's types where it has one.
+/// The prototypes of a header, with Rust's types where there is a counterpart.
 fn c_calls(header: &str) -> BTreeMap<String, Call> {
     let mut calls = BTreeMap::new();
     for (place, _) in header.match_indices("bucket_") {

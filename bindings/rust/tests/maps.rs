@@ -1,4 +1,4 @@
-//! Maps do what std's do.
+//! Maps behave as std's do.
 
 use bucket::map::{self, Drain, Entry, IntoIter, IterMut};
 use bucket::{Cache, Key, Map, NoMemory, Reason, Seed, Set};
@@ -14,7 +14,7 @@ fn sorted<T: Ord>(items: impl IntoIterator<Item = T>) -> Vec<T> {
     items
 }
 
-/// Each of these keys is another one, found again by itself, and comes back as it was.
+/// Each of these keys differs from the others, is found by itself, and is returned unchanged.
 fn are_keys<K: Key + Clone + Ord + Debug>(keys: &[K]) {
     let mut map = Map::new();
     for (place, key) in keys.iter().enumerate() {
@@ -158,7 +158,7 @@ fn values_of_any_type_are_lent_and_stay_where_they_are() {
     let address = lists.get("a").unwrap() as *const Vec<String>;
     lists.extend((0..5000).map(|number| (number.to_string(), vec![])));
     assert_eq!((lists.get("a").unwrap() as *const Vec<String>, &lists["a"][0][..]), (address, "b"));
-    // A value without a size, one that is large, and one that is aligned.
+    // A zero-sized value, a large one, and an aligned one.
     let units: Map<u8, ()> = (0..=255).map(|key| (key, ())).collect();
     assert_eq!(units.len(), 256);
     let large: Map<u8, [u64; 1000]> = (0..10).map(|key| (key, [u64::from(key); 1000])).collect();
@@ -343,7 +343,7 @@ fn room_is_made_and_given_back() {
     for (least, capacity) in [(6000, 5000), (1000, 1000), (1000, 1000), (10, 10), (0, 0)] {
         assert_eq!((unused.shrink_to(least), unused.capacity()), (Ok(()), capacity));
     }
-    // An empty map that has slots, with room that was reserved or asked for at first.
+    // An empty map that has slots, with room that was reserved or requested at first.
     let mut reserved: Map<u64, u64> = Map::new();
     reserved.reserve(5000).unwrap();
     let mut emptied: Map<u64, u64> = Map::with_capacity(5000);
@@ -424,7 +424,7 @@ fn auto_traits_are_those_of_the_pairs() {
     are_send::<Map<String, Vec<u8>>, Set<u64>, Cache<u64, Box<dyn Fn() + Send>>>();
     are_send::<IterMut<u64, u64>, IntoIter<u64, u64>, Drain<u64, u64>>();
     are_unwind_safe::<Map<String, Vec<u8>>, Cache<u64, u64>>();
-    // Longer lives of what is borrowed go for shorter ones.
+    // Longer lifetimes of what is borrowed coerce to shorter ones.
     fn shorter<'a>(map: Map<&'static str, &'static str>, _: &'a str) -> Map<&'a str, &'a str> {
         map
     }

@@ -1,4 +1,4 @@
-//! Closures and values that panic: nothing is dropped twice, nothing is leaked, and the collection goes on.
+//! Closures and values that panic: nothing is dropped twice, nothing is leaked, and the collection stays usable.
 
 mod common;
 
@@ -6,7 +6,7 @@ use bucket::{Cache, Map, Set};
 use common::{Counted, Tally};
 use std::panic::{catch_unwind, AssertUnwindSafe};
 
-/// Makes a call that panics, or whose answer does as it is dropped, and returns what was said.
+/// Makes a call that panics, or whose result panics when it is dropped, and returns the message.
 fn panicking<T>(call: impl FnOnce() -> T) -> String {
     match catch_unwind(AssertUnwindSafe(|| drop(call()))) {
         Ok(()) => panic!("the call doesn't panic"),
@@ -17,12 +17,12 @@ fn panicking<T>(call: impl FnOnce() -> T) -> String {
     }
 }
 
-/// A map of 200 values, of which some panic as they are dropped.
+/// A map of 200 values, some of which panic when they are dropped.
 fn with_panics(tally: &Tally, panics: &[u64]) -> Map<u64, Counted> {
     (0..200).map(|key| (key, if panics.contains(&key) { tally.panicking(key) } else { tally.value(key) })).collect()
 }
 
-/// A map holds these values, each once, and takes more.
+/// A map holds these values, each once, and accepts more.
 fn is_whole(map: &mut Map<u64, Counted>, tally: &Tally, len: usize) {
     assert_eq!((map.len(), map.iter().count(), tally.there()), (len, len, len as isize));
     assert!(map.iter().all(|(key, value)| *key == value.number && map.get(key).is_some()));
@@ -35,7 +35,7 @@ fn is_whole(map: &mut Map<u64, Counted>, tally: &Tally, len: usize) {
     assert_eq!(map.len(), len);
 }
 
-/// The values that panic, where all do, some, and one.
+/// The values that panic: all, some, or one.
 const PANICS: [&[u64]; 4] = [&[0], &[199], &[3, 70, 71, 150], &[0, 1, 2, 197, 198, 199]];
 
 #[test]
@@ -94,10 +94,10 @@ fn a_closure_of_retain_that_panics_loses_nothing() {
             })
         });
         assert_eq!((&said[..], asked), ("the closure panics", at));
-        // Those that it said no to are gone.
+        // Those for which it returned `false` are gone.
         is_whole(&mut map, &tally, 200 - refused);
     }
-    // It panics, and so does a value that it said no to.
+    // It panics, and so does a value for which it returned `false`.
     let tally = Tally::default();
     let mut map: Map<u64, Counted> = (0..200).map(|key| (key, tally.panicking(key))).collect();
     let mut asked = 0;
@@ -128,7 +128,7 @@ fn a_closure_of_extract_if_that_panics_loses_nothing() {
         let mut count = 0;
         assert_eq!(panicking(|| taken.by_ref().for_each(|_| count += 1)), "the closure panics");
         assert_eq!(count, at);
-        // It is asked for the others afterwards, as std's is.
+        // It is called for the others afterwards, as std's is.
         assert_eq!(taken.by_ref().take(20).count(), 20.min(199 - at));
         drop(taken);
         is_whole(&mut map, &tally, 200 - at - 20.min(199 - at));
@@ -145,7 +145,7 @@ fn a_taken_value_that_panics_loses_nothing() {
     is_whole(&mut map, &tally, left);
     assert_eq!(map.extract_if(|_, _| true).count(), left);
     is_whole(&mut map, &tally, 0);
-    // The same of the iterators that own the pairs: what is left goes as they are dropped.
+    // The same for the iterators that own the pairs: the rest is dropped with them.
     panicking(|| with_panics(&tally, &[7, 8]).into_iter().for_each(drop));
     panicking(|| with_panics(&tally, &[7, 8]).into_values().for_each(drop));
     panicking(|| map.drain().chain(with_panics(&tally, &[9]).drain()).for_each(drop));
@@ -210,7 +210,7 @@ fn a_cache_goes_on_after_panics() {
     let mut cache = Cache::new(64).unwrap();
     for key in 0..1000u64 {
         let value = if key % 10 == 0 { tally.panicking(key) } else { tally.value(key) };
-        // The evicted value panics as the caller drops it; the new one is in.
+        // The evicted value panics when the caller drops it; the new one is in the cache.
         let _ = catch_unwind(AssertUnwindSafe(|| drop(cache.put(key, value))));
         assert!(cache.contains(&key));
         assert_eq!(cache.len() as isize, tally.there());

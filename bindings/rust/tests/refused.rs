@@ -1,5 +1,5 @@
-//! Refuses each allocation of a call in turn, alone and with all after it, those of the library too: a call that
-//! fails changes nothing, hands back what it says, and none aborts.
+//! Fails each allocation of a call in turn, alone and with all after it, including those of the library: a call that
+//! fails changes nothing, returns what its documentation says, and none aborts.
 #![cfg(target_env = "gnu")]
 
 mod common;
@@ -13,7 +13,7 @@ use std::collections::BTreeMap;
 use std::fmt::{Debug, Write};
 use std::process::Command;
 
-/// A key of a number.
+/// The key with a given number.
 trait Numbered: Key + Clone + Ord + Debug {
     fn of(number: u64) -> Self;
 }
@@ -30,7 +30,7 @@ impl Numbered for String {
     }
 }
 
-/// A way to insert a pair whose key is absent: its pair comes back where the call says so.
+/// A way to insert a pair whose key is absent; it returns the pair if the call does.
 type Way<K> = (&'static str, fn(&mut Map<K, Counted>, K, Counted) -> Result<(), Option<(K, Counted)>>);
 
 fn ways<K: Key>() -> [Way<K>; 7] {
@@ -52,7 +52,7 @@ fn ways<K: Key>() -> [Way<K>; 7] {
     ]
 }
 
-/// Inserts pairs, each with one more allocation granted until none is refused.
+/// Inserts pairs, each with one more allocation granted until none fails.
 fn insertions_lose_nothing<K: Numbered>(pairs: u64) {
     for (name, way) in ways::<K>() {
         for all_after in [false, true] {
@@ -84,7 +84,7 @@ fn insertions_lose_nothing<K: Numbered>(pairs: u64) {
                     }
                 }
             }
-            // `try_extend` does without the room that it was refused.
+            // `try_extend` continues without the room whose allocation failed.
             assert!(failed >= pairs || name == "try_extend" && !all_after, "{name}");
             drop((map, std, tally));
             assert_eq!(held(), before, "{name}");
@@ -102,12 +102,12 @@ fn insertions_of_texts_lose_nothing() {
     insertions_lose_nothing::<String>(150);
 }
 
-/// A map of some pairs.
+/// A map with some pairs.
 fn map_of<K: Numbered>(tally: &Tally, pairs: u64) -> Map<K, Counted> {
     (0..pairs).map(|number| (K::of(number), tally.value(number))).collect()
 }
 
-/// Calls on a key that is there, and those that read or remove, succeed without memory.
+/// Calls on a key that is present, and those that read or remove, succeed without memory.
 fn what_is_there_needs_no_memory<K: Numbered>() {
     let tally = Tally::default();
     let before = held();
@@ -129,7 +129,7 @@ fn what_is_there_needs_no_memory<K: Numbered>() {
             assert_eq!(earlier.number + 1, number);
         }
     });
-    // A node is asked for first, and in its absence the key that is there is found.
+    // The node is allocated first; if that fails, a key that is present is still found.
     assert!(refused <= 500);
     let keys: Vec<K> = (0..500).map(K::of).collect();
     let ((), _) = granting(0, true, || {
@@ -159,13 +159,13 @@ fn a_text_that_is_there_needs_no_memory() {
     what_is_there_needs_no_memory::<String>();
 }
 
-/// Grants a call no allocation, then one and so on, until none is refused. `is_same` holds after each failure.
+/// Makes a call with no allocation granted, then one and so on, until none fails. `is_same` holds after each failure.
 fn refuse_each<T>(all_after: bool, mut call: impl FnMut() -> Result<T, NoMemory>, mut is_same: impl FnMut() -> bool) -> T {
     for granted in 0.. {
         let (answer, refused) = granting(granted, all_after, &mut call);
         match answer {
             Ok(answer) if refused == 0 => return answer,
-            // A call may do without what it was refused.
+            // A call may succeed without an allocation that failed.
             Ok(_) => {}
             Err(NoMemory) => assert!(refused > 0 && is_same()),
         }
@@ -182,7 +182,7 @@ fn whole_maps_are_made_or_not<K: Numbered>() {
         assert!(copy == map && tally.there() == 400);
         drop(copy);
         let pairs = || (0..200).map(|number| (K::of(number), tally.value(number)));
-        // To make a text takes memory that can't be refused.
+        // Making a text allocates memory that can't be made to fail.
         if std::mem::size_of::<K>() == 8 {
             let made = refuse_each(all_after, || Map::try_from_iter(pairs()), || tally.there() == 200);
             assert!(made == map);
@@ -192,7 +192,7 @@ fn whole_maps_are_made_or_not<K: Numbered>() {
         refuse_each(all_after, || map.borrow_mut().shrink_to_fit(), || map.borrow().len() == 200);
         refuse_each(all_after, || map.borrow_mut().shrink_to(1000), || map.borrow().len() == 200);
         assert!(map.into_inner() == map_of(&tally, 200));
-        // Without a pair nothing is asked for.
+        // Without a pair nothing is allocated.
         for fill in [0, 1] {
             let mut empty: Map<K, Counted> = Map::with_capacity(5000);
             empty.extend((0..fill).map(|number| (K::of(number), tally.value(number))));
@@ -250,8 +250,8 @@ fn a_set_loses_no_key() {
     }
 }
 
-/// Puts pairs to a small cache, each with one more allocation granted until none is refused, and compares what it
-/// holds after each call.
+/// Puts pairs into a small cache, each with one more allocation granted until none fails, and compares the contents
+/// after each call.
 fn a_cache_loses_nothing<K: Numbered>() {
     for all_after in [false, true] {
         let before = held();
@@ -266,7 +266,7 @@ fn a_cache_loses_nothing<K: Numbered>() {
                     0 => cache.put(key, value).map_err(|NoMemory| None),
                     1 => cache.try_put(key, value).map_err(|error| Some(error.into_pair())),
                     2 => cache.try_insert(key, value).map_err(|error| Some(error.into_pair())),
-                    // What is evicted for it isn't handed out.
+                    // The pair that is evicted for it isn't returned.
                     _ => cache.get_or_insert_with(key, || value).map(|_| None).map_err(|NoMemory| None),
                 });
                 let is_in = answer.is_ok();
@@ -292,7 +292,7 @@ fn a_cache_loses_nothing<K: Numbered>() {
                     break;
                 }
             }
-            // A key that is there needs no memory.
+            // A key that is present allocates nothing.
             let (key, value) = (K::of(number), tally.value(number));
             let (answer, _) = granting(0, true, || cache.put(key, value));
             assert_eq!(answer.unwrap().map(|(key, value)| (key, value.number)), Some((K::of(number), number)));
@@ -327,8 +327,8 @@ fn a_trait_that_cannot_fail_ends_as_stds_do() {
     assert!(String::from_utf8_lossy(&output.stderr).contains("memory allocation of"), "{output:?}");
 }
 
-/// Pairs come in the order of the slots. By one seed they'd meet in the first buckets of a table
-/// that grows, whose chains are requests.
+/// Pairs come in the order of the slots. With the same seed they would collide in the first buckets of a growing
+/// table, whose overflow chains are allocations.
 fn copies_ask_for_no_more_than_fillings<K: Numbered>(seed: Option<Seed>) {
     let empty = || seed.map_or(Map::new(), Map::with_seed);
     let mut map = empty();
@@ -337,7 +337,7 @@ fn copies_ask_for_no_more_than_fillings<K: Numbered>(seed: Option<Seed>) {
             map.insert(K::of(number), number).unwrap();
         }
     });
-    // A text key is a request of its own, as it was there.
+    // A text key is an allocation of its own, as in the original map.
     let pairs = || map.iter().map(|(key, value)| (key.clone(), *value));
     let (mut to, mut one, mut third) = (empty(), empty(), empty());
     one.insert(K::of(4000), 1).unwrap();
@@ -345,7 +345,7 @@ fn copies_ask_for_no_more_than_fillings<K: Numbered>(seed: Option<Seed>) {
     let same = keys.clone();
     assert!(asked(|| drop(map.clone())) < filling);
     assert!(asked(|| to.extend(pairs())) < filling);
-    // As std's, it reserves for half of them where there are others.
+    // Like std's, it reserves for half of them if there are others.
     assert!(asked(|| one.extend(pairs())) < filling + 250);
     assert!(asked(|| drop(pairs().collect::<Map<_, _>>())) < filling);
     assert!(asked(|| drop(&keys | &same)) < filling);

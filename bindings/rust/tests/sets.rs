@@ -1,4 +1,4 @@
-//! Sets do what std's do.
+//! Sets behave as std's do.
 
 use bucket::{NoMemory, Seed, Set};
 use std::collections::HashSet;
@@ -40,7 +40,7 @@ fn a_key_stays_until_it_is_replaced() {
     assert_eq!(set.len(), 3);
 }
 
-/// Two sets, and what is in either, in both, in the first alone and in one alone.
+/// Two sets, and the keys in either, in both, in the first only and in exactly one.
 type Row = (&'static [i32], &'static [i32], [&'static [i32]; 4]);
 
 const ROWS: [Row; 6] = [
@@ -93,7 +93,7 @@ fn sets_are_made_printed_and_given_away() {
     assert_eq!(format!("{:?} {:?}", set.clone().drain(), set.clone().into_iter()), "[2] [2]");
     assert_eq!((Set::<bool>::default().len(), Set::with_seed(Seed::FIXED) == set), (0, false));
     assert_eq!(Set::try_from_iter(["a", "b", "a"]).map(|set| set.len()), Ok(2));
-    // Fewer keys than a whole new set are a loop, and no key is asked for twice.
+    // Fewer keys than a whole new set are inserted one by one, and no key is looked up twice.
     let words: Set<String> = "to be or not to be".split(' ').map(String::from).collect();
     assert_eq!(words.len(), 4);
 }

@@ -1,4 +1,4 @@
-//! What an array of 2^20 slots costs to make, beside filling as much memory with zeros.
+//! The cost of making an array of 2^20 slots, compared with filling as much memory with zeros.
 use bucket_slots::bucket::{Bucket, MAP};
 use bucket_slots::bucket_array::BucketArray;
 use std::alloc::Global;
@@ -12,13 +12,13 @@ type Array = BucketArray<u64, u64, (), MAP>;
 /// The number of slots of the array.
 const SLOTS: usize = 1 << 20;
 
-/// The number of times that each is made.
+/// How many times each is made.
 const ROUNDS: usize = 9;
 
-/// The number of words that the array's buckets take: 2^15 buckets.
+/// The number of words of the array's buckets: 2^15 buckets.
 const WORDS: usize = (1 << 12) * mem::size_of::<Pairs>();
 
-/// Prints what an array costs, and as much memory of zeros.
+/// Prints the cost of an array, and of as much memory of zeros.
 pub(crate) fn run_arrays(rt: &HostRuntime, wants_times: bool) -> io::Result<()> {
     let mut array_time = Duration::MAX;
     let mut zeros_time = Duration::MAX;

@@ -1,5 +1,5 @@
-//! What calls on a cache cost: on that of the collections, which evicts from one bucket, and on the
-//! kit's, which evicts the least recently used pair of all.
+//! The cost of calls on a cache: on that of the collections, which evicts from one bucket, and on
+//! the kit's, which evicts the least recently used pair of all.
 use crate::course::{print_time, require};
 use crate::hashes::{MapHash, TableHash};
 use collections::hash_cache::HashCache;
@@ -11,16 +11,16 @@ use std::time::Instant;
 
 /// A cache of numbers. Each value is its key.
 pub(crate) trait Cached: Drop {
-    /// Returns an empty cache with room for so many pairs.
+    /// Returns an empty cache with room for that many pairs.
     fn with_size(alloc: Global, pairs: u64) -> io::Result<Self>
     where
         Self: Sized;
 
-    /// Puts an absent key, and returns whether it is in.
+    /// Puts an absent key, and returns whether it is in the cache.
     fn put(&mut self, key: u64) -> bool;
 
     /// Looks a key up, which makes its pair the most recently used, and returns whether it is
-    /// there.
+    /// present.
     fn touch(&mut self, key: u64) -> bool;
 }
 
@@ -65,8 +65,8 @@ impl Cached for Listed {
     }
 }
 
-/// Prints what calls cost on a cache for so many pairs: it is half filled, each of its keys and as
-/// many absent ones are looked up, and then twice as many keys are put as there is room for.
+/// Prints the cost of calls on a cache for that many pairs: it is half filled, each of its keys and
+/// as many absent ones are looked up, and then twice as many keys are put as there is room for.
 pub(crate) fn run_cache<C: Cached>(
     rt: &HostRuntime,
     wants_times: bool,
@@ -90,7 +90,7 @@ pub(crate) fn run_cache<C: Cached>(
     print_time(rt, wants_times, "evict", start, twice)
 }
 
-/// Puts the keys between two numbers, and returns how many are in.
+/// Puts the keys of a half-open range, and returns how many are in the cache.
 #[inline(never)]
 fn put_all<C: Cached>(cache: &mut C, from: u64, to: u64) -> u64 {
     let mut put: u64 = 0;
@@ -102,7 +102,7 @@ fn put_all<C: Cached>(cache: &mut C, from: u64, to: u64) -> u64 {
     put
 }
 
-/// Looks the keys between two numbers up, and returns how many are there.
+/// Looks up the keys of a half-open range, and returns how many are present.
 #[inline(never)]
 fn touch_all<C: Cached>(cache: &mut C, from: u64, to: u64) -> u64 {
     let mut found: u64 = 0;

@@ -1,12 +1,13 @@
-//! The courses that a map of numbers goes through, and what each of their calls cost.
+//! The courses that a map of numbers goes through, and the cost of each of their calls.
 //!
-//! Each figure is a line: its name, all nanoseconds or bytes, and the number of calls or pairs.
+//! Each figure is a line: its name, the total in nanoseconds or bytes, and the number of calls or
+//! pairs.
 use crate::measured::Measured;
 use crate::resident::resident_bytes;
 use std::io;
 use std::time::Instant;
 
-/// Prints what a call cost: its name, the time since `start`, and the number of calls. Without
+/// Prints the cost of a call: its name, the time since `start`, and the number of calls. Without
 /// times it prints the name and the number.
 pub(crate) fn print_time(
     rt: &HostRuntime,
@@ -24,7 +25,7 @@ pub(crate) fn print_time(
     Ok(())
 }
 
-/// Prints what calls cost on a map that grows from nothing to an even number of pairs.
+/// Prints the cost of calls on a map that grows from nothing to an even number of pairs.
 pub(crate) fn run_calls<M: Measured>(
     rt: &HostRuntime,
     wants_times: bool,
@@ -52,7 +53,7 @@ pub(crate) fn run_calls<M: Measured>(
     run_ends(rt, wants_times, &mut map, pairs)
 }
 
-/// Prints what walks cost, sweeps, and removals, on a map with the keys from `pairs` to twice that.
+/// Prints the cost of walks, sweeps and removals on a map with the keys from `pairs` to twice that.
 fn run_ends<M: Measured>(
     rt: &HostRuntime,
     wants_times: bool,
@@ -77,7 +78,7 @@ fn run_ends<M: Measured>(
     print_time(rt, wants_times, "sweep", start, pairs)
 }
 
-/// Prints what an insertion costs in a map that was large enough from the start, and then a
+/// Prints the cost of an insertion in a map that was large enough from the start, and then of a
 /// removal, where the map keeps its size.
 pub(crate) fn run_large<M: Measured>(
     rt: &HostRuntime,
@@ -93,7 +94,7 @@ pub(crate) fn run_large<M: Measured>(
     print_time(rt, wants_times, "emptied", start, pairs)
 }
 
-/// Prints how long single insertions took in a map that grows to so many pairs: the longest, the
+/// Prints how long single insertions took in a map that grows to that many pairs: the longest, the
 /// 99.99th percentile, and those of some ranks, from the slowest.
 pub(crate) fn run_single<M: Measured>(
     rt: &HostRuntime,
@@ -127,7 +128,7 @@ pub(crate) fn run_single<M: Measured>(
     Ok(())
 }
 
-/// The time of a rank, 1 for the slowest, among times in rising order; 0 if there is none.
+/// The time of a rank, 1 for the slowest, among times in ascending order; 0 if there is none.
 fn slowest(times: &[u128], rank: usize) -> u128 {
     match times.len().checked_sub(rank) {
         Some(place) => times.get(place).copied().unwrap_or(0),
@@ -144,7 +145,7 @@ pub(crate) fn require(holds: bool) -> io::Result<()> {
     }
 }
 
-/// Inserts the keys between two numbers, and returns how many were inserted.
+/// Inserts the keys of a half-open range, and returns how many were inserted.
 #[inline(never)]
 fn insert_all<M: Measured>(map: &mut M, from: u64, to: u64) -> u64 {
     let mut inserted: u64 = 0;
@@ -156,7 +157,7 @@ fn insert_all<M: Measured>(map: &mut M, from: u64, to: u64) -> u64 {
     inserted
 }
 
-/// Looks the keys between two numbers up, and returns how many are present.
+/// Looks up the keys of a half-open range, and returns how many are present.
 #[inline(never)]
 fn find_all<M: Measured>(map: &M, from: u64, to: u64) -> u64 {
     let mut found: u64 = 0;
@@ -168,7 +169,7 @@ fn find_all<M: Measured>(map: &M, from: u64, to: u64) -> u64 {
     found
 }
 
-/// Looks the keys between two numbers up, and returns how many are absent.
+/// Looks up the keys of a half-open range, and returns how many are absent.
 #[inline(never)]
 fn miss_all<M: Measured>(map: &M, from: u64, to: u64) -> u64 {
     let mut missed: u64 = 0;
@@ -193,7 +194,7 @@ fn churn_all<M: Measured>(map: &mut M, pairs: u64) -> u64 {
     changed
 }
 
-/// Removes the keys between two numbers, and returns how many were present.
+/// Removes the keys of a half-open range, and returns how many were present.
 #[inline(never)]
 fn remove_all<M: Measured>(map: &mut M, from: u64, to: u64) -> u64 {
     let mut removed: u64 = 0;
@@ -205,7 +206,7 @@ fn remove_all<M: Measured>(map: &mut M, from: u64, to: u64) -> u64 {
     removed
 }
 
-/// The sum of the numbers between two, wrapping.
+/// Returns the sum of the numbers of a half-open range, wrapping.
 fn sum_between(from: u64, to: u64) -> u64 {
     let mut sum: u64 = 0;
     for key in from..to {

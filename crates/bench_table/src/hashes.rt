@@ -7,7 +7,7 @@ ghost use Rattle.bench_table.specs.Mixed.{mixed_alike, mixed_fits, shifted_in};
 use bucket_table::key_hash::KeyHash;
 use std::hash::{BuildHasher, Hasher};
 
-/// An odd number with its bits spread.
+/// An odd number whose set bits are spread out.
 const MULTIPLIER: u64 = 11400714819323198485;
 
 /// Multiplies a key, adds the upper half to the lower one, and multiplies again.

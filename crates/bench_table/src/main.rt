@@ -1,5 +1,5 @@
-//! What calls on a table cost, and on a map over it, beside the standard library's map under the
-//! same hash.
+//! The cost of calls on a table, and on a map over it, compared with the standard library's map
+//! with the same hash.
 //!
 //! The arguments say what runs: `table`, `collections` or `map`, then `calls`, `large` or `single`,
 //! and a number of pairs; `cache` or `lru`, then `calls` and a number of pairs; `shapes`, then a
@@ -25,7 +25,7 @@ use crate::measured::{Map, Measured, Table};
 use crate::shapes::run_shapes;
 use std::{env, io};
 
-/// The number of pairs that a run has at least, all courses taken together.
+/// The minimum number of pairs of a run, all courses taken together.
 const PAIRS: u64 = 64_000;
 
 fn main(rt: HostRuntime) -> io::Result<()> {

@@ -1,4 +1,4 @@
-//! What is measured of a map of numbers, and the two maps: a table, and the standard library's.
+//! The measured calls on a map of numbers, and the two maps: a table, and the standard library's.
 use crate::hashes::{MapHash, TableHash};
 use bucket_slots::bucket::{Bucket, MAP};
 use bucket_table::hash_table::{HashTable, ResizeRule};
@@ -8,18 +8,18 @@ use std::io;
 
 /// A map of numbers. Each value is its key.
 pub(crate) trait Measured: Drop {
-    /// Returns a map with no pair, with room for so many at least.
+    /// Returns a map without pairs, with room for at least that many.
     fn with_room(alloc: Global, pairs: u64) -> io::Result<Self>
     where
         Self: Sized;
 
-    /// Inserts a key that the map hasn't, and returns whether it was inserted.
+    /// Inserts a key that the map does not contain, and returns whether it was inserted.
     fn put(&mut self, key: u64) -> bool;
 
-    /// Returns whether the map has a key.
+    /// Returns whether the map contains a key.
     fn has(&self, key: u64) -> bool;
 
-    /// Removes a key, and returns whether the map had it.
+    /// Removes a key, and returns whether the map contained it.
     fn take(&mut self, key: u64) -> bool;
 
     /// Returns the sum of all values, wrapping.
@@ -90,7 +90,7 @@ impl Measured for Table {
     }
 }
 
-/// The sum of a bucket's values.
+/// Returns the sum of a bucket's values.
 #[inline(always)]
 fn sum_of(bucket: &Bucket<u64, u64, (), MAP>) -> u64 {
     let mut sum: u64 = 0;

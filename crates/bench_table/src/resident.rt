@@ -1,10 +1,10 @@
-//! How much memory the process has.
+//! The memory of the process.
 use std::{fs, io};
 
 /// The number of bytes of a page.
 const PAGE: u64 = 4096;
 
-/// Returns how many bytes of the process are in memory; 0 where they aren't wanted.
+/// Returns how many bytes of the process are in memory; 0 unless `wanted`.
 pub(crate) fn resident_bytes(rt: &HostRuntime, wanted: bool) -> io::Result<u64> {
     if !wanted {
         return Ok(0);

@@ -1,4 +1,4 @@
-//! What programs do with the pairs of a collection, as `bench/shapes.sh` times it. Pairs of another
+//! What programs do with the pairs of a collection, timed by `bench/shapes.sh`. Pairs of another
 //! collection come in the order of its slots, which is that of their hashes.
 //!
 //! Each figure is a line: nanoseconds, the number of pairs or calls, how many pairs there are at
@@ -20,7 +20,7 @@ use std::alloc::Global;
 use std::io;
 use std::time::{Duration, Instant};
 
-/// Prints what a group of shapes takes.
+/// Prints the cost of a group of shapes.
 pub(crate) fn run_shapes(rt: &HostRuntime, group: &str, pairs: u64) -> io::Result<()> {
     match group {
         "map" => run_map(rt, pairs),
@@ -42,7 +42,7 @@ macro_rules! run_table {
     }};
 }
 
-/// Runs the shapes of all collections, after a copy that isn't timed: it gives the process memory.
+/// Runs the shapes of all collections, after an untimed copy that gets memory for the process.
 fn run_all_kinds<C: Shaped>(rt: &HostRuntime, kind: &str, pairs: u64) -> io::Result<()> {
     drop(copied(rt.alloc(), filled::<C>(rt.alloc(), pairs))?);
     run_table! { rt, kind, pairs, filled::<C>(rt.alloc(), pairs);
@@ -131,7 +131,7 @@ fn run_longest_of<C: Shaped>(rt: &HostRuntime, kind: &str, pairs: u64) -> io::Re
     Ok(())
 }
 
-/// Prints what a shape takes, from one collection to another.
+/// Prints the cost of a shape, from one collection to another.
 fn run_shape<S: Drop, C: Shaped, F: FnOnce(Global, S) -> io::Result<C>>(
     rt: &HostRuntime,
     kind: &str,
@@ -149,7 +149,7 @@ fn run_shape<S: Drop, C: Shaped, F: FnOnce(Global, S) -> io::Result<C>>(
     Ok(())
 }
 
-/// Prints what so many calls took since `start`, and the sum of their answers.
+/// Prints how long that many calls took since `start`, and the sum of their results.
 fn print_shape(
     rt: &HostRuntime,
     start: Instant,

@@ -1,4 +1,4 @@
--- What is answered once a bad line is told of, and how it is written out.
+-- What is answered after a bad line is reported, and how it is written out.
 use Rattle.std.proofs.Common.{◌≡◌, ℕ, List, [], ◌∷◌, ◌++◌, Option, Result, Ok, Err, refl, sym, append-nil}
 use Rattle.std.specs.Result.{result_and}
 use Rattle.bhtable.specs.Growing.{HasGrown}
@@ -11,14 +11,14 @@ use Rattle.bhtable.proofs.Ending.{HasRepliedBad, IsReplied}
 use Rattle.bhtable.proofs.Growing.{grown_same}
 use Rattle.bhtable.proofs.Replying.{replied_same}
 
--- the number of the bad line came behind the answers of those before it
+-- the number of the bad line was appended after the answers of those before it
 pub record HasToldBad (start output : Option (List ℕ)) (waiting : List ℕ) (lines : List (List ℕ)) (number : ℕ) : Type 0 where
   pub before : Option (List ℕ)
   pub between : List ℕ
   pub bad : HasRepliedBad start before between lines number
   pub told : HasGrown before between output waiting (bad_line number)
 
--- what is answered once a bad line is told of
+-- what is answered after a bad line is reported
 abbrev pub IsReady : Result (Unit {0}) Stop → Option (List ℕ) → Option (List ℕ) → List ℕ → List (List ℕ) → Type 0
 IsReady (Err (BadLine number)) start output waiting lines = HasToldBad start output waiting lines number
 IsReady ended start output waiting lines = IsReplied ended start output waiting lines
@@ -35,7 +35,7 @@ some_grown start output output2 waiting waiting2 lines some grown = record {
   replied = replied_same start output output2 waiting waiting2 some.first some.table some.replied grown;
 }
 
--- a bad line isn't told of where there is no memory for that, or the writer failed
+-- a bad line isn't reported if there is no memory for that, or the writer failed
 untold : (start output output2 : Option (List ℕ)) (waiting left : List ℕ) (lines : List (List ℕ)) (number : ℕ)
     → HasRepliedBad start output waiting lines number → HasGrown output waiting output2 left []
     → HasRepliedSome start output2 left lines
@@ -73,14 +73,14 @@ nothing_split : (front back : List ℕ) → [] ≡ front ++ back → (front ≡ 
 nothing_split [] back split = (refl, sym split)
 nothing_split (byte ∷ front) back split = absurd (cc)
 
--- where nothing waits, nothing is written
+-- if nothing waits, nothing is written
 nothing_written : (output output2 : Option (List ℕ)) (waiting left lost : List ℕ) → waiting ≡ []
     → HasGrown output waiting output2 left [] → (left ≡ []) × HasGrown output lost output2 lost []
 nothing_written output output2 waiting left lost empty grown =
     let none = nothing_split grown.taken left (rw empty at grown.in_order) in
     (none.1, record { taken = []; written = rw none.0 at grown.written; in_order = append-nil lost })
 
--- what waits is written, as far as the writer takes it
+-- the waiting text is written, as far as the writer accepts it
 pub ready_grown : (ended : Result (Unit {0}) Stop) (start output output2 : Option (List ℕ)) (waiting left : List ℕ)
     (lines : List (List ℕ)) → IsReady ended start output waiting lines → HasGrown output waiting output2 left []
     → IsReady ended start output2 left lines

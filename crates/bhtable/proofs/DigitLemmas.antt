@@ -6,7 +6,7 @@ use Rattle.std.proofs.lemmas.List.{drop-set, length-set}
 use Rattle.std.proofs.lemmas.Fmt.{decimal_step, decimal_digit}
 use Rattle.std.specs.Fmt.{decimal}
 
--- what stands behind the place `last` are the last bytes of a text, and `rest` is the number before them
+-- the bytes from the place `last` on are the last bytes of a text, and `rest` is the number before them
 pub record AreWritten (text : List ℕ) (rest last : ℕ) (digits : List ℕ) : Type 0 where
   pub within : last ≤ 19
   pub small : rest < 10 ^ (last + 1)
@@ -18,7 +18,7 @@ small_before rest last small =
     let step : 10 ^ (last + 1) ≡ 10 ^ last * 10 = rw add-one (pow-suc 10 last) in
     omega arith
 
--- a digit more stands before the last
+-- one more digit comes before the last
 one_before : (rest last : ℕ) → 10 ≤ rest → rest < 10 ^ (last + 1) → 1 ≤ last
 one_before rest zero large small = omega arith
 one_before rest (suc last) large small = omega arith

@@ -12,7 +12,7 @@ use Rattle.bhtable.proofs.Replying.{some_of_more}
 use Rattle.bhtable.proofs.Taking.{replied_all}
 use Rattle.bhtable.proofs.Unreadable.{still_unreadable}
 
--- those before one that can't be read are answered
+-- the lines before one that can't be read are answered
 pub record HasRepliedBad (start output : Option (List ℕ)) (waiting : List ℕ) (lines : List (List ℕ)) (number : ℕ) : Type 0 where
   pub first : List (List ℕ)
   pub line : List ℕ
@@ -23,7 +23,7 @@ pub record HasRepliedBad (start output : Option (List ℕ)) (waiting : List ℕ)
   pub replied : HasReplied start output waiting first table
   pub unreadable : IsUnreadable table line
 
--- what is answered of all lines of an input, once no call waits
+-- what is answered of all lines of an input, if no call waits
 abbrev pub IsReplied : Result (Unit {0}) Stop → Option (List ℕ) → Option (List ℕ) → List ℕ → List (List ℕ) → Type 0
 IsReplied (Ok done) start output waiting lines =
     (table : Option ScriptTable) × HasReplied start output waiting lines table

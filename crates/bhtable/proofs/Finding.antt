@@ -35,7 +35,7 @@ unended_line is_ended bytes more line none (ended, some, found) last =
     let left : drop line.whole_len bytes ++ more ≡ [] = rw (whole, all) nothing in
     rw (left, len) (line_goes_on bytes [] more none ∙ ap (λ (l : List ℕ). lines_after bytes l) nothing ∙ last_is bytes some)
 
--- a line that is found is the first; where the input has ended, nothing is behind the bytes
+-- a line that is found is the first; if the input has ended, nothing follows the bytes
 pub found_line : (is_ended : Bool) (bytes more : List ℕ) (line : Line) → IsFoundIn is_ended bytes (FoundLine line)
     → (is_ended ≡ true → more ≡ [])
     → lines_of (bytes ++ more) ≡ take line.len bytes ∷ lines_of (drop line.whole_len bytes ++ more)

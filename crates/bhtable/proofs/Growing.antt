@@ -1,4 +1,4 @@
--- Texts on their way to a writer, and what of them is in the output.
+-- Texts on their way to a writer, and the parts of them that are in the output.
 use Rattle.std.proofs.Common.{◌≡◌, ℕ, List, [], ◌++◌, Option, Some, None, Result, Ok, Err, IfErr, refl, sym, subst, ap, ◌∙◌, append_assoc}
 use Rattle.std.proofs.Common.{append-nil, ◌-◌, length, take, drop, take-append-drop}
 use Rattle.std.proofs.lemmas.List.{take_rest}
@@ -60,7 +60,7 @@ front_taken start output output2 left text count grown written = record {
       ∙ sym (append_assoc grown.taken (take count left) (drop count left)));
 }
 
--- nothing more was taken
+-- nothing more was accepted
 pub grown_kept : (old new new2 : Option (List ℕ)) (waiting left text : List ℕ) → HasGrown old waiting new left text → Keeps new new2
     → HasGrown old waiting new2 left text
 grown_kept old new new2 waiting left text grown kept = record {

@@ -1,4 +1,4 @@
--- A line that is a number alone.
+-- A line that consists of a number only.
 use Rattle.std.proofs.Common.{◌≡◌, ℕ, List, [], ◌∷◌, ◌++◌, true, false, is_some, IfSome, Option, Some, None}
 use Rattle.std.proofs.Common.{map, sym, ap, ◌∙◌, arith, append-nil, append_assoc}
 use Rattle.std.proofs.lemmas.Bool.{and_parts}
@@ -13,7 +13,7 @@ use Rattle.bhtable.proofs.Parts.{part_of-number}
 digit_is_no_blank : (byte : ℕ) → is_ascii_digit byte ≡ true → is_blank byte ≡ false
 digit_is_no_blank byte digit = grind (arith, nat_tests)
 
--- no blank stands between digits
+-- there is no blank between digits
 digits_are_word : (word bytes : List ℕ) → all_ascii_digits bytes ≡ true → words_after word bytes ≡ with_word (word ++ bytes) []
 digits_are_word word [] digits = ap (λ (w : List ℕ). with_word w []) (sym (append-nil word))
 digits_are_word word (byte ∷ bytes) digits =

@@ -37,7 +37,7 @@ meant_by name rows bytes None same named known plain = λ value part_is.
     let none : Some value ≡ None = sym (known value) ∙ ap (meaning rows) (sym named) ∙ same in
     absurd (cc)
 
--- so rows tell what a part means, where each meaning is found by its word
+-- so the rows give what a part means, if each meaning is found by its word
 pub meant : {T : Type 0} (name : T → List ℕ) (rows : List (List ℕ × T)) (bytes : List ℕ) → AreNamed name rows
     → ((value : T) → meaning rows (name value) ≡ Some value) → ((value : T) → part_of (name value) ≡ text (name value))
     → IsMeant name (part_of bytes) (meaning rows bytes)

@@ -38,7 +38,7 @@ begun lines first others start output lost text last table status made parts ans
   });
 }
 
--- where nothing tells of an end, the input might have failed
+-- if no end is reported, the input might have failed
 some_begun : (start output : Option (List ℕ)) (lost : List ℕ) (lines : List (List ℕ)) → HasRepliedSome start output lost lines
     → HasBegun lines start output
 some_begun start output lost lines some =
@@ -85,7 +85,7 @@ bad_whole start output whole waiting lines number told written = record {
   unreadable = told.bad.unreadable;
 }
 
--- what waits is lost
+-- the waiting text is lost
 ready_begun : (ended : Result (Unit {0}) Stop) (start output : Option (List ℕ)) (lost : List ℕ) (lines : List (List ℕ))
     → IsReady ended start output lost lines → HasBegun lines start output
 ready_begun (Ok done) start output lost lines (table, replied) = some_begun start output lost lines (record {
@@ -132,7 +132,7 @@ ready_out (Err NoMemory) start output lines some = some_out start output lines s
 ready_out (Err InputFailed) start output lines some = some_out start output lines some
 ready_out (Err OutputFailed) start output lines failed = ready_begun (Err OutputFailed) start output [] lines failed
 
--- what waits is written, as far as the writer takes it
+-- the waiting text is written, as far as the writer accepts it
 pub ready_written : (result ended : Result (Unit {0}) Stop) (start output output2 : Option (List ℕ))
     (waiting left : List ℕ) (lines : List (List ℕ)) → IsReady ended start output waiting lines
     → left ≡ [] → IsPushed result output waiting output2 left []
@@ -145,7 +145,7 @@ ready_written (Err stop) ended start output output2 waiting left lines ready emp
     let now = ready_grown ended start output output2 waiting rest.1.0 lines ready rest.1.1 in
     subst (λ (s : Stop). IsOutputUpTo s lines start output2) (sym failed) (ready_begun ended start output2 rest.1.0 lines now)
 
--- the last line behind the others
+-- the last line after the others
 some_then : (lines : List (List ℕ)) (start output output2 : Option (List ℕ)) (last : List ℕ) → HasAnsweredSome lines start output []
     → Appends output output2 last → HasAnsweredSome lines start output2 last
 some_then lines start output output2 last some written = record {

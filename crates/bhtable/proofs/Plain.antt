@@ -1,4 +1,4 @@
--- Lines of a verb, one blank and numbers alone.
+-- Lines of a verb, one blank and numbers only.
 use Rattle.std.proofs.Common.{◌≡◌, ℕ, List, [], ◌∷◌, ◌++◌, true, drop, eqb, length, take, take-append-drop, refl, sym, ap, ◌∙◌}
 use lib.Pointwise.{bytes_decides, pointwise}
 use Rattle.bhtable.specs.Numbers.{is_number}
@@ -8,7 +8,7 @@ use Rattle.bhtable.specs.declared.request.Request.TheVariants.{Call as RequestCa
 use Rattle.bucket_table.specs.declared.script.call.Call.{Call}
 use Rattle.bucket_table.specs.declared.script.call.Call.TheVariants.{Put}
 
--- a verb, and the blank behind it
+-- a verb, and the blank after it
 abbrev before_operands : Call ℕ ℕ → List ℕ
 before_operands call = (call_line call).0 ++ 32 ∷ []
 
@@ -19,7 +19,7 @@ unfolding part_of is_number
 verb_ends (Put key value) rest = refl
 verb_ends call rest = refl
 
--- what stands behind a verb and its blank are the operands of its call
+-- what follows a verb and its blank are the operands of its call
 pub asked_plainly : (call : Call ℕ ℕ) (line rest : List ℕ)
     → pointwise eqb (take (length (before_operands call)) line) (before_operands call) ≡ true
     → rest ≡ drop (length (before_operands call)) line → parts_of rest ≡ (call_line call).1 → Asks (parts_of line) (RequestCall call)

@@ -30,6 +30,6 @@ at_most_half power (k, power_is) fits =
           omega arith
     ]
 
--- what is refused can't be so
+-- what is rejected can't be so
 pub refused : {P : Type 0} → (P → ⊥) → (false ≡ true) ↔ P
 refused never = (λ (e : false ≡ true). absurd (false≢true e), λ p. absurd (never p))

@@ -1,4 +1,4 @@
--- What is replied, as its text goes from the replies that wait into the output.
+-- What is replied, as its text moves from the waiting replies into the output.
 use Rattle.std.proofs.Common.{◌≡◌, ℕ, ◌≤◌, true, List, [], ◌∷◌, ◌++◌, Option, None, OnErr, Result, Ok, Err, is_err, length, take, refl}
 use Rattle.std.proofs.Common.{sym, ap, ◌∙◌, subst, append_assoc, append-nil}
 use Rattle.std.specs.Io.{StartsWith}
@@ -31,7 +31,7 @@ replied_more start output output2 waiting waiting2 text lines more table table2 
   written = grown_more start output output2 [] waiting waiting2 replied.text text replied.written grown;
 }
 
--- the same lines, where nothing is appended
+-- the same lines, if nothing is appended
 pub replied_same : (start output output2 : Option (List ℕ)) (waiting waiting2 : List ℕ) (lines : List (List ℕ)) (table : Option ScriptTable)
     → HasReplied start output waiting lines table → HasGrown output waiting output2 waiting2 []
     → HasReplied start output2 waiting2 lines table

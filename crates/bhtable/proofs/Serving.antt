@@ -16,7 +16,7 @@ use Rattle.bhtable.proofs.Finding.{found_end, found_line, found_too_long}
 use Rattle.bhtable.proofs.Reading.{HasRead, all_lines, line_passed, more_read}
 use Rattle.bhtable.proofs.Replying.{some_of_more}
 
--- as many lines as `number` are read from the input, and taken
+-- `number` lines are read from the input, and taken
 pub record HasCome (input left : Option (List ℕ)) (is_ended : Bool) (unread : List ℕ) (start output : Option (List ℕ)) (session : Session)
     (number : ℕ) : Type 0 where
   pub before : List (List ℕ)
@@ -92,7 +92,7 @@ module _ (input left : Option (List ℕ)) (is_ended : Bool) (unread : List ℕ) 
         },
       )
 
-  -- a stop that tells of no line
+  -- a stop that reports no line
   pub ends_between : (output2 : Option (List ℕ)) (session2 : Session) (stop : Stop) → IsLack stop
       → HasStopped stop start output2 session2 come.before → EndsSo input start output2 session2 (Err stop)
   ends_between output2 session2 (BadLine other) lack left2 = absurd lack

@@ -44,7 +44,7 @@ taken_call start output session session2 lines line call taken short asks pushed
   needed = λ none. absurd (cc);
 }
 
--- where no call waits, all lines that were taken are answered
+-- if no call waits, all lines that were taken are answered
 pub replied_all : (start output : Option (List ℕ)) (session : Session) (lines : List (List ℕ)) → HasTaken start output session lines
     → session.calls.items ≡ []
     → HasReplied start output session.replies lines (table_at_hand session.table)
@@ -71,7 +71,7 @@ taken_all start output session lines replied none = record {
   needed = λ _. none;
 }
 
--- a stop behind the answers of the first of the lines
+-- a stop after the answers of the first of the lines
 pub stopped_at : (stop : Stop) (start output output2 : Option (List ℕ)) (session session2 : Session)
     (lines first more others : List (List ℕ)) (text : List ℕ) (table table2 : Option ScriptTable) → lines ≡ (first ++ more) ++ others
     → HasReplied start output session.replies first table → AreAnswers table more text table2
@@ -134,7 +134,7 @@ pushed start output output2 session session2 lines before after replies (Err sto
     (taken.in_order ∙ ap (λ (ls : List (List ℕ)). taken.answered ++ ls) some.in_order
     ∙ sym (append_assoc taken.answered some.first some.others)) (rw there at taken.replied) some.answers left none
 
--- after a call that there is no memory for
+-- after a call for which allocation failed
 pub taken_so_far : (start output : Option (List ℕ)) (session session2 : Session) (lines : List (List ℕ))
     → HasTaken start output session lines
     → session2.calls.items ≡ session.calls.items → session2.table ≡ session.table → session2.replies ≡ session.replies

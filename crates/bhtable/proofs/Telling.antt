@@ -1,4 +1,4 @@
--- What a table tells of itself, by its arrays.
+-- What a table reports about itself, by its arrays.
 use Rattle.std.proofs.Common.{◌≡◌, ℕ, nat_eq, refl}
 use Rattle.bucket_table.specs.Views.ArraysView.{IsOneMap, TableView}
 use Rattle.bucket_table.specs.Scripts.Hashes.{script_hash}

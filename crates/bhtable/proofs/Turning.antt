@@ -18,7 +18,7 @@ use Rattle.bhtable.specs.declared.stop.Stop.TheVariants.{BadLine, NoMemory, Inpu
 use Rattle.bhtable.proofs.Replying.{answered_out, replied_one, replied_same}
 use Rattle.bhtable.proofs.Taking.{stopped_at, taken_all}
 
--- a want of memory or a writer that fails isn't a line that can't be read
+-- an allocation failure or a writer that fails isn't a line that can't be read
 pub at_line : (result : Result (Unit {0}) Stop) (P : Unit {0} → Type 0) (Q : Stop → Type 0) (table : Option ScriptTable) (line : List ℕ)
     → MatchResult result P Q → MatchResult result (λ _. Unit {0}) IsLack
     → MatchResult result P (λ stop. Q stop × IsBadAt stop table line)
@@ -36,7 +36,7 @@ stopped_before : (stop : Stop) (start output output2 : Option (List ℕ)) (sessi
 stopped_before stop start output output2 session session2 lines table replied left none =
     stopped_at stop start output output2 session session2 lines lines [] [] [] table table (simp append-nil) replied (refl, refl) left none
 
--- a line that is answered at once, where no call waits
+-- a line that is answered at once, if no call waits
 pub taken_one : (start output output2 : Option (List ℕ)) (session session2 : Session) (lines : List (List ℕ)) (line : List ℕ)
     (text : List ℕ) (after : Option ScriptTable) (result : Result (Unit {0}) Stop)
     → HasReplied start output session.replies lines (table_at_hand session.table)
@@ -52,18 +52,18 @@ taken_one start output output2 session session2 lines line text after (Ok done) 
 taken_one start output output2 session session2 lines line text after (Err stop) replied none short answer left table calls =
     stopped_before stop start output output2 session session2 lines (table_at_hand session.table) replied left (calls ∙ none)
 
--- where there is a table, an epoch leaves it as it is
+-- if there is a table, an epoch leaves it as it is
 pub epoch_answered : (table : Option Table) (generation : FixedGeneration) → IsSome table
     → Answers (table_at_hand table) (Epoch generation) Done (table_at_hand table)
 epoch_answered None generation there = absurd (cc)
 epoch_answered (Some table) generation there = refl
 
--- where there is a table, it tells of itself, and stays
+-- if there is a table, it answers a question about itself, and stays
 pub told_of : (table : Option Table) (at : Table) (question : Question) (reply : Reply ℕ ℕ) → table ≡ Some at
     → Tells (table_of at) question reply → Answers (table_at_hand table) (Questions question) reply (table_at_hand table)
 told_of table at question reply there tells = rw there (tells, refl)
 
--- the text that waited was written, as far as the writer took it
+-- the waiting text was written, as far as the writer accepted it
 pub wrote : (start output output2 : Option (List ℕ)) (session session2 : Session) (lines : List (List ℕ)) (result : Result (Unit {0}) Stop)
     → HasReplied start output session.replies lines (table_at_hand session.table) → session.calls.items ≡ []
     → session2.calls.items ≡ session.calls.items → session2.table ≡ session.table → session2.replies ≡ []

@@ -29,7 +29,7 @@ joined call (next ∷ calls) (reply ∷ replies) old new (map, step, maps) (stat
     let between : ScriptTable = record { map = map; tickets = state; len = new.len } in
     (between, (step, ticket_step), joined next calls replies between new maps states)
 
--- where there is a call, so that the number of buckets may change
+-- if there is a call, so that the number of buckets may change
 pub one_run : (calls : List (Call ℕ ℕ)) (replies : List (Reply ℕ ℕ)) (old new : ScriptTable) (len : ℕ) → len ≡ length calls
     → false ≡ (len == 0) → Run (Step nat_eq script_hash) old.map calls replies new.map
     → Run TicketStep old.tickets calls replies new.tickets → ScriptRun old calls replies new

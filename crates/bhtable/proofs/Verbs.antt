@@ -1,4 +1,4 @@
--- A line's verb tells of its form, and so how many parts stand behind it.
+-- A line's verb determines its form, and so how many parts follow it.
 use Rattle.std.proofs.Common.{◌≡◌, ℕ, List, [], ◌∷◌, length, map, Option, Some, None, MatchOption, refl, sym, ap, ◌∙◌, subst, arith}
 use Rattle.std.proofs.Common.{append-nil, length-append, rules}
 use Rattle.bhtable.specs.Layout.Forms.{AsksNothing, Begins, form_word}
@@ -55,7 +55,7 @@ verb_is_word (RequestQuestion Word) = refl
 verb_is_word (RequestCall (Put key value)) = refl
 verb_is_word (RequestCall call) = refl
 
--- how many parts stand behind the verb of a form
+-- how many parts follow the verb of a form
 part_len : Form → ℕ
 part_len Table = 4
 part_len Epoch = 2
@@ -75,7 +75,7 @@ same_length_at : (found : Option Form) (request request2 : Request) → MatchOpt
 same_length_at None request request2 one two = absurd one
 same_length_at (Some form) request request2 one two = length-form form request one ∙ sym (length-form form request2 two)
 
--- requests of one verb have as many parts
+-- requests with the same verb have as many parts
 pub same_length : (request request2 : Request) → (request_line request).0 ≡ (request_line request2).0
     → length (request_line request).1 ≡ length (request_line request2).1
 same_length request request2 same = same_length_at (meaning forms (request_line request).0) request request2 (form_of request)

@@ -34,7 +34,7 @@ consumed xs start end count inside =
     sym (ap (λ j. drop count (take j (drop start xs))) parts ∙ drop-take count _ (drop start xs)
     ∙ ap (take (end - (start + count))) (drop-drop count start xs))
 
--- the same of a vector whose bytes from `end` on are lent out
+-- the same for a vector whose bytes from `end` on are lent out
 pub vec_grown : {Z : Type 0} (v : Vec ℕ Z) (xs ys : List ℕ) (start end n : ℕ) → start ≤ end → end ≤ length xs
     → xs ≡ v.items → n ≤ length ys → length ys ≡ length xs - end
     → slice_range (with_items v (put_mid end (length xs - end) xs ys)).items start (end + n) ≡ slice_range v.items start end ++ take n ys

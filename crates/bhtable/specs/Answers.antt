@@ -24,7 +24,7 @@ use Rattle.bhtable.specs.declared.request.Question.TheVariants.{Slots, Word}
 use Rattle.bhtable.specs.declared.request.Request.{Request}
 use Rattle.bhtable.specs.declared.request.Request.TheVariants.{New, Call as Calls, Question as Questions, Epoch}
 
--- what the answers of a script depend on: the map, the tickets of the old array, and the number of buckets of the current one
+-- what a script's answers depend on: the map, the tickets of the old array, and the number of buckets of the current one
 pub record ScriptTable : Type 0 where
   pub map : MapState ℕ ℕ ScriptHash
   pub tickets : RehashState
@@ -60,7 +60,7 @@ abbrev pub told : ArraysView ℕ ℕ → Question → Reply ℕ ℕ
 told arrays Slots = Number (32 * length arrays.current)
 told arrays Word = word_reply (killed_flags arrays.linked) arrays.tickets
 
--- the arrays are one map, and it is that of the table, as are their tickets and the length of the current one
+-- the arrays are one map, which is that of the table, as are their tickets and the length of the current one
 pub record AreArraysOf (table : ScriptTable) (arrays : ArraysView ℕ ℕ) : Type 0 where
   pub one_map : IsOneMap nat_eq (script_hash table.map.hasher) arrays
   pub map : table.map ≡ state_of table.map.kind (record { hasher = table.map.hasher; arrays = arrays })
@@ -71,7 +71,7 @@ pub record AreArraysOf (table : ScriptTable) (arrays : ArraysView ℕ ℕ) : Typ
 abbrev pub Tells : ScriptTable → Question → Reply ℕ ℕ → Type 0
 Tells table question reply = (arrays : ArraysView ℕ ℕ) × AreArraysOf table arrays × (reply ≡ told arrays question)
 
--- from the table `old` the request may have this reply, and `new` is the table after it; a question and an epoch don't change it
+-- the request may have this reply in the table `old`, and `new` is the table after it; a question and an epoch don't change it
 abbrev pub Answers : Option ScriptTable → Request → Reply ℕ ℕ → Option ScriptTable → Type 0
 Answers old (New fresh) Done new = new ≡ Some (fresh_table fresh)
 Answers (Some before) (Calls call) reply (Some after) = ScriptStep before call reply after
@@ -79,7 +79,7 @@ Answers (Some table) (Questions question) reply new = Tells table question reply
 Answers (Some table) (Epoch generation) Done new = new ≡ Some table
 Answers old request reply new = ⊥
 
--- from the table `old` the line may be answered by this text, and `new` is the table after it; a line without words is skipped
+-- the line may be answered by this text in the table `old`, and `new` is the table after it; a line without words is skipped
 abbrev pub IsAnswer : Option ScriptTable → List ℕ → List ℕ → Option ScriptTable → Type 0
 IsAnswer old line text new =
     ((parts_of line ≡ []) × (text ≡ []) × (new ≡ old)) ⊎ ((request : Request) × (reply : Reply ℕ ℕ)
@@ -92,7 +92,7 @@ AreAnswers old (line ∷ lines) text new =
     (length line ≤ 4096) × ((first : List ℕ) × (rest : List ℕ) × (between : Option ScriptTable)
     × IsAnswer old line first between × AreAnswers between lines rest new × (text ≡ first ++ rest))
 
--- the line is too long, or has words that ask for nothing but perhaps a call, a question or an epoch before the first table
+-- the line is too long, or has words that ask for nothing, or for a call, a question or an epoch before the first table
 abbrev pub IsUnreadable : Option ScriptTable → List ℕ → Type 0
 IsUnreadable table line = (4096 < length line) ⊎ ((parts_of line ≡ [] → ⊥)
     × ((request : Request) → Asks (parts_of line) request → (table ≡ None) × ((new : NewTable) → request ≡ New new → ⊥)))

@@ -2,15 +2,15 @@
 use Rattle.std.specs.Prelude.{ℕ, ◌+◌, ◌-◌, ◌*◌, ◌^◌, Bool, ◌&&◌, List, [], ◌∷◌, length, nat_le, nat_lt}
 use Rattle.std.specs.Str.{all_ascii_digits}
 
--- the number that decimal digits write when they follow those of `number`
+-- the number whose decimal digits are these after those of `number`
 abbrev pub value_after : ℕ → List ℕ → ℕ
 value_after number [] = number
 value_after number (digit ∷ digits) = value_after (number * 10 + (digit - 48)) digits
 
--- the number that decimal digits write
+-- the number with these decimal digits
 abbrev pub value_of : List ℕ → ℕ
 value_of digits = value_after 0 digits
 
--- 1 to 20 decimal digits, which write a number below 2^64
+-- 1 to 20 decimal digits of a number below 2^64
 unfoldable pub is_number : List ℕ → Bool
 is_number bytes = nat_lt 0 (length bytes) && nat_le (length bytes) 20 && all_ascii_digits bytes && nat_lt (value_of bytes) (2 ^ 64)

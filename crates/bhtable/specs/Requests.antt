@@ -64,7 +64,7 @@ request_line (Calls call) = call_line call
 request_line (Questions question) = (question_word question, [])
 request_line (Epoch generation) = (codes "epoch", number generation.epoch ∷ text (mark_word generation.keep) ∷ [])
 
--- the least and the greatest number of slots that a table may have
+-- the minimum and the maximum number of slots that a table may have
 abbrev pub AreLimits : ℕ → ℕ → Type 0
 AreLimits minimum maximum = IsPowerOfTwo maximum × (64 ≤ maximum) × (minimum ≤ maximum)
 

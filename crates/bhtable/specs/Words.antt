@@ -11,17 +11,17 @@ abbrev pub with_word : List ℕ → List (List ℕ) → List (List ℕ)
 with_word [] words = words
 with_word (byte ∷ bytes) words = (byte ∷ bytes) ∷ words
 
--- the words of the bytes, where those of `word` stand right before them
+-- the words of the bytes, if those of `word` come right before them
 abbrev pub words_after : List ℕ → List ℕ → List (List ℕ)
 words_after word [] = with_word word []
 words_after word (byte ∷ bytes) =
     cond (is_blank byte) (with_word word (words_after [] bytes)) (words_after (word ++ byte ∷ []) bytes)
 
--- what stands between blanks
+-- what is between blanks
 abbrev pub words_of : List ℕ → List (List ℕ)
 words_of bytes = words_after [] bytes
 
--- a part of a line: a number, or a text that is none
+-- a part of a line: a number, or another text
 pub data Part : Type 0 where
   number : ℕ → Part
   text : List ℕ → Part

@@ -3,7 +3,7 @@
 //! Model: `LinesView`, the bytes that are read and not yet passed, whether the reader is at its
 //! end, and what the reader has left.
 //!
-//! A line is first found, as a value, and passed once its bytes are used. So a caller can answer
+//! A line is first found, as a value, and passed after its bytes are used. So a caller can answer
 //! the lines that it has before it reads more.
 ghost use Rattle.std.specs.Prelude.{◌≡◌, ◌≤◌, ◌==◌, IfSome, length, position};
 
@@ -17,7 +17,7 @@ use std::alloc::{AllocError, Global};
 use std::io::Read;
 use std::marker::Model;
 
-// The most bytes of a line, without its newline and the one carriage return before that.
+// The maximum number of bytes of a line, without its newline and one carriage return before that.
 const LONGEST_LINE: usize = 4096;
 
 /// The lines of a reader.
@@ -28,17 +28,17 @@ pub(crate) struct Lines<R: Read> {
     is_ended: bool,
 }
 
-/// A whole line at the front of what is read.
+/// A whole line at the front of the bytes that are read.
 #[derive(Clone, Copy)]
 pub(crate) struct Line {
-    /// Its length in bytes, with what ends it.
+    /// Its length in bytes, including what ends it.
     pub(crate) whole_len: usize,
     /// Its length in bytes, without what ends it.
     pub(crate) len: usize,
     ghost ordered: { len ≤ whole_len },
 }
 
-/// What stands at the front of what is read.
+/// What is at the front of the bytes that are read.
 #[derive(Clone, Copy)]
 pub(crate) enum Found {
     /// A whole line.
@@ -70,7 +70,7 @@ impl<R: Read + Drop> Lines<R> {
     ghost use Rattle.std.specs.Io.KnownBytes.{Consumes, IsAtEnd, Keeps};
     ghost use Rattle.bhtable.specs.Found.{IsFoundIn, IsWithin};
 
-    /// Returns the lines of a reader of which nothing is read yet.
+    /// Returns the lines of a reader from which nothing is read yet.
     ///
     /// # Errors
     ///
@@ -86,7 +86,7 @@ impl<R: Read + Drop> Lines<R> {
         })
     }
 
-    /// Returns what stands at the front. It reads nothing more.
+    /// Returns what is at the front. It reads nothing more.
     ///
     /// O(bytes up to the first newline).
     #[inline(always)]
@@ -124,13 +124,13 @@ impl<R: Read + Drop> Lines<R> {
 
     /// Reads once, and appends to what isn't passed yet; an interrupted read is repeated.
     ///
-    /// If nothing is read, the reader is at its end, and `find` takes what is left as a whole line.
+    /// If nothing is read, the reader is at its end, and `find` returns the rest as a whole line.
     ///
     /// # Errors
     ///
-    /// `InputFailed`, if the reader fails: what is read stays as it is.
+    /// `InputFailed`, if the reader fails: the bytes that were read stay as they are.
     ///
-    /// O(bytes that aren't passed yet, and those that are read).
+    /// O(bytes that aren't passed yet, plus those that are read).
     pub(crate) fn read_more(&mut self) -> Result<(), Stop>
         requires { length self.old.unread ≤ 4097 }
         ensures read { IfOk result (λ _. (more : List ℕ)
@@ -177,7 +177,7 @@ impl Found {
     ghost use Rattle.std.specs.Prelude.{take};
     ghost use Rattle.bhtable.specs.Found.{IsFound, IsWithin};
 
-    // A line of `len` bytes but for the one carriage return that may end them.
+    // A line of `len` bytes, without the one carriage return that may end them.
     #[inline(always)]
     fn of(bytes: &[u8], len: usize, whole_len: usize) -> Found
         requires bytes { whole_len ≤ length bytes.now }

@@ -1,5 +1,5 @@
 //! A program over one table, on standard input and output: each line of input is a request, and is
-//! answered by a line of output. It takes no notice of its arguments.
+//! answered by a line of output. It ignores its arguments.
 //!
 //! SPDX-License-Identifier: Apache-2.0
 #![tactic(auto)]
@@ -36,9 +36,9 @@ use std::process::ExitCode;
 /// The status is 0 at the end of the input; 2 after `bad line N`, if line N can't be read; 3 after
 /// `no memory`; 4 after `input failed`, and if the output can't be written.
 ///
-/// At 4 the output is the answers of the first lines and then `input failed`, or, if a write
-/// failed, a prefix of what it would have been with any status. Nothing is written after a write
-/// that failed. No clause says that at 3 an allocation really failed.
+/// With status 4 the output is the answers of the first lines and then `input failed`, or, if a
+/// write failed, a prefix of what it would have been with any status. Nothing is written after a
+/// failed write. No clause says that with status 3 an allocation really failed.
 pub fn serve<R: Read + Drop, W: Write>(alloc: Global, input: R, output: &mut W) -> u8
     ensures { IsServed (R.remaining input) (W.contents output.old) (W.contents output.new) result }
 {
@@ -48,7 +48,7 @@ pub fn serve<R: Read + Drop, W: Write>(alloc: Global, input: R, output: &mut W) 
     }
 }
 
-// Answers the lines until the end of the input, and writes every reply, also after a stop.
+// Answers the lines until the end of the input, and writes every reply, even after a stop.
 fn answer_input<R: Read + Drop, W: Write>(
     alloc: Global,
     input: R,

@@ -1,5 +1,4 @@
-//! Writing to an output that may fail; the last line of output, and the exit status, after what
-//! ended a script.
+//! Writing to an output that may fail; the last line of output and the exit status after a stop.
 ghost use Rattle.bhtable.specs.Growing.{IsWritten};
 ghost use Rattle.bhtable.specs.Layout.Stops.{HasLast, IsReported};
 
@@ -40,7 +39,7 @@ fn write_line<W: Write>(output: &mut W, line: &[u8]) -> Result<(), Stop>
 
 /// Writes a text, in as many writes as the output needs.
 ///
-/// An interrupted write is repeated, and one that writes nothing has failed.
+/// An interrupted write is repeated. A write that writes nothing has failed.
 ///
 /// # Errors
 ///

@@ -15,7 +15,7 @@ use std::alloc::{AllocError, Global};
 use std::io::Write;
 use std::marker::Model;
 
-// How much is written at a time.
+// How many bytes are written at a time.
 const TEXT_CAPACITY: usize = 64 * 1024;
 
 // Longer than the longest reply, a word and two numbers.
@@ -34,7 +34,7 @@ impl Model for Replies {
 }
 
 impl Replies {
-    /// No replies yet.
+    /// Returns no replies yet.
     pub(crate) fn new(alloc: Global) -> Result<Self, AllocError>
         ensures { IfOk result (λ replies. replies ≡ []) }
     {
@@ -42,7 +42,7 @@ impl Replies {
         Ok(Replies { text })
     }
 
-    /// Appends replies, up to the first that can't be appended.
+    /// Appends replies, up to the first one that can't be appended.
     pub(crate) fn push_all<W: Write>(
         &mut self,
         replies: &[Reply<u64, u64>],
@@ -127,7 +127,7 @@ impl Replies {
         Ok(())
     }
 
-    // What can't be written is dropped.
+    // Writes the text. What can't be written is dropped.
     fn write_text<W: Write>(&mut self, output: &mut W) -> Result<(), Stop>
         ensures empty { self.new ≡ [] }
         ensures written { IsPushed result (W.contents output.old) self.old (W.contents output.new)

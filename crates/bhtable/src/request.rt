@@ -80,7 +80,7 @@ enum Form {
     Call(Call<u64, u64>),
 }
 
-// Each verb and its form: a call has zeros in the place of the line's numbers.
+// Each verb and its form: a call has zeros in place of the line's numbers.
 const FORMS: [(&[u8], Form); 20] = [
     (b"new", Form::Table),
     (b"epoch", Form::Epoch),
@@ -142,8 +142,8 @@ pub(crate) fn request_in(line: &[u8]) -> Result<Option<Request>, Unreadable>
     }
 }
 
-// A call with numbers alone, if just one blank is between its verb and the first number. Most lines
-// are such calls.
+// Returns a call that consists of a verb and numbers only, with exactly one blank before the first
+// number. Most lines are such calls.
 fn plain_call(line: &[u8]) -> Option<Call<u64, u64>>
     ensures { IfSome result (λ call. Asks (parts_of line.now) (Request.Call call)) }
 {
@@ -171,7 +171,7 @@ fn plain_call(line: &[u8]) -> Option<Call<u64, u64>>
     Some(Call::Evict(lone_number(key)?))
 }
 
-// The request of a line that has no words left over.
+// The request of a line, all of whose words are used.
 fn whole_request(first: &[u8], words: Words<'_>) -> Option<Request>
     ensures asked { IfSome result (Asks (part_of first.now ∷ words.entry)) }
     ensures refused { IfNone result (AsksNothing (part_of first.now ∷ words.entry)) }
@@ -291,7 +291,7 @@ fn meaning_of<T: Copy>(mut table: &[(&[u8], T)], word: &[u8]) -> Option<T>
     None
 }
 
-// The greatest is a power of two from 64 to 2^63, and the least at most that.
+// The maximum is a power of two from 64 to 2^63, and the minimum is at most that.
 fn limits_of(minimum: usize, maximum: usize) -> Option<Limits>
     ensures value { IfSome result (λ limits.
         (limits.minimum ≡ minimum) × (limits.maximum ≡ maximum)) }

@@ -104,7 +104,7 @@ impl Session {
         }
     }
 
-    /// Answers every call and writes the replies out.
+    /// Answers every call, and writes the replies out.
     pub(crate) fn write_out<W: Write>(&mut self, output: &mut W) -> Result<(), Stop>
         ensures taken { (start : Option (List ℕ)) (lines : List (List ℕ))
             → HasTaken start (W.contents output.old) self.old lines
@@ -118,7 +118,7 @@ impl Session {
         self.replies.write_out(output)
     }
 
-    /// Answers and writes what remains, also after a stop, and returns how the script ended.
+    /// Answers and writes the rest, even after a stop, and returns how the script ended.
     pub(crate) fn finish<W: Write>(
         mut self,
         ended: Result<(), Stop>,
@@ -137,7 +137,7 @@ impl Session {
         self.replies.write_out(output).and(ended)
     }
 
-    // Replaces the current table by a fresh one.
+    // Replaces the current table with a fresh one.
     fn start<W: Write>(&mut self, new: NewTable, output: &mut W) -> Result<(), Stop>
         requires { AreLimits new.limits.minimum new.limits.maximum }
         ensures taken { (start : Option (List ℕ)) (lines : List (List ℕ)) (line : List ℕ)
@@ -214,7 +214,7 @@ impl Session {
         }
     }
 
-    // Has the table answer the gathered calls.
+    // Lets the table answer the gathered calls.
     fn answer<W: Write>(&mut self, output: &mut W) -> Result<(), Stop>
         ensures answered { (start : Option (List ℕ)) (lines : List (List ℕ))
             → HasTaken start (W.contents output.old) self.old lines

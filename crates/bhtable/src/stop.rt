@@ -1,10 +1,10 @@
-//! What keeps a program from answering every line.
+//! What stops a program before it has answered every line.
 ghost use Rattle.std.specs.Prelude.{◌≡◌};
 ghost use Rattle.bhtable.specs.declared.stop.Stop.TheVariants.{NoMemory};
 
 use std::alloc::AllocError;
 
-/// What ends a program before its input does.
+/// Why a program ends before its input does.
 #[derive(Clone, Copy, Debug, PartialEq, Eq)]
 pub(crate) enum Stop {
     /// The line of this number, counted from 1, can't be read.

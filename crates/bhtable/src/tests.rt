@@ -1,4 +1,4 @@
-//! Stories told in lines, each served at once over memory, and lines that can't be read.
+//! Stories in lines, each served over memory in one call, and lines that can't be read.
 use crate::serve;
 use std::alloc::Global;
 use std::fmt::Debug;
@@ -14,14 +14,14 @@ mod indexes;
 mod maps;
 mod tickets;
 
-// A name, and what is said, part by part.
+// A name, and the parts of the conversation.
 type Story = (&'static str, &'static [&'static [Row]]);
 
 // Lines and their replies.
 enum Row {
-    // These.
+    // This text.
     Say(&'static str, &'static str),
-    // These for each number of a range, whose end isn't meant. The number stands for each `#`.
+    // This text for each number of a half-open range. The number replaces each `#`.
     Each(u64, u64, &'static str, &'static str),
 }
 
@@ -48,7 +48,7 @@ fn each_line_of_a_story_has_its_reply(rt: HostRuntime) -> Result<(), Fail> {
     Ok(())
 }
 
-// Serves the lines of a story, and compares all that is answered.
+// Serves the lines of a story, and compares all answers.
 fn tell(rt: &impl Abort, alloc: Global, (story, parts): &Story) -> Result<(), Fail> {
     let mut lines = Vec::new(alloc);
     let mut replies = Vec::new(alloc);
@@ -85,7 +85,7 @@ fn push_text(to: &mut Vec<u8>, text: &str, number: u64) -> Result<(), Fail> {
     Ok(())
 }
 
-// An input, and all of its output: the first lines that differ are told by their number.
+// An input, and its whole output: the first lines that differ are reported with their number.
 fn check_text<R: Read + Drop, T: Debug + Copy + Drop>(
     rt: &impl Abort,
     alloc: Global,

@@ -1,4 +1,4 @@
--- A handle may go to another thread, whatever it holds.
+-- A handle may be sent to another thread, whatever it holds.
 use base.Fraction.{full_share}
 use base.Shift.{Keyless}
 use denote.Exit.{Exit, unchanged, leaves, hidden, under}

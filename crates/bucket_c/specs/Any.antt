@@ -1,4 +1,4 @@
--- What a call does that handles of several kinds take.
+-- What a call does that takes handles of several kinds.
 use Rattle.std.specs.Prelude.{ℕ, ◌≡◌, [], Option, Some, None, nat_eq}
 use Rattle.bucket_table.specs.Rehash.State.{first_tickets}
 use Rattle.bucket_calls.specs.Codes.{closed, ok, other_kind}
@@ -43,7 +43,7 @@ ReservesMore additional (Some (Store old)) code new =
     (map : Maps Text Text) × (new ≡ Some (Store map)) × MakesRoomBy text_eq additional old code map
 ReservesMore additional (Some table) code new = (code ≡ other_kind) × (new ≡ Some table)
 
--- the least number of slots is 0 from now on, and as few slots as the pairs take are left
+-- the minimum number of slots is 0 from now on, and as few slots are left as the pairs need
 abbrev pub Shrinks : Option Table → ℕ → Option Table → Type 0
 Shrinks None code new = (code ≡ closed) × (new ≡ None)
 Shrinks (Some (Map old)) code new = (map : Maps ℕ ℕ) × (new ≡ Some (Map map)) × ShrinksBy nat_eq old code map

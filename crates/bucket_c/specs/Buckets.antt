@@ -20,7 +20,7 @@ words_in bucket (Store m) = (m.bucket_lens, map (value_alone (λ text. 0)) (pair
 words_in bucket (Cache c) = ((map_of c).bucket_lens, pairs_in_bucket (map_of c) bucket)
 words_in bucket (TextCache c) = ((map_of c).bucket_lens, map (value_alone (λ word. word)) (pairs_in_bucket (map_of c) bucket))
 
--- the same of the pairs under byte strings, as what they leave in two buffers
+-- the same for the pairs under byte strings, as what they leave in two buffers
 abbrev pub texts_in : ℕ → Table → Option (List ℕ × List Piece)
 texts_in bucket (Map m) = None
 texts_in bucket (TextMap m) = Some (m.bucket_lens, map text_piece (pairs_in_bucket m bucket))
@@ -31,7 +31,7 @@ texts_in bucket (Cache c) = None
 texts_in bucket (TextCache c) = Some ((map_of c).bucket_lens, map text_piece (pairs_in_bucket (map_of c) bucket))
 
 module _ (bucket start : ℕ) where
-  -- the pairs of a bucket, from one on, are copied to the front of a buffer, as many as there is room for
+  -- the pairs of a bucket, from a given one on, are copied to the front of a buffer, as many as there is room for
   abbrev pub CopiesWordsIn : Option Table → List Pair → ℕ → ℕ → List Pair → ℕ → Type 0
   CopiesWordsIn table old before code new count =
       Reads (λ t. Some (words_in bucket t)) (λ all code. CopiesBucket bucket all.0 (CopiesPairs start all.1 old count new) code)

@@ -11,6 +11,6 @@ use Rattle.bucket_c.specs.contracts.tables.Table as table
 abbrev pub with_table : Held → Table → Held
 with_table held table = record held { table = Some table }
 
--- when the loan ends, it holds what was written through the loan
+-- when the loan ends, the `Held` holds what was written through the loan
 abbrev pub lends_table : MutBor Held → MutBor Table → Fml
 lends_table lender lent = Lends held.the_row table.the_row lender lent (with_table lender.now)

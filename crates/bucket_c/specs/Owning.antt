@@ -9,7 +9,7 @@ use Rattle.std.specs.declared.alloc.Global.{Global}
 use Rattle.std.specs.contracts.impls.GlobalAllocator.TheImpl.{ghosts}
 use Rattle.bucket_c.specs.contracts.tables.Table.{the_row}
 
--- a box of the table, where there are any
+-- a box of the table, if there is one
 abbrev pub owned : Global → Ptr → Option the_row.Denot → Fml
 owned alloc at (Some table) = box_owns (ghosts.dealloc_token alloc) the_row at table
 owned alloc at None = ftrue

@@ -31,12 +31,12 @@ text_pieces (Cache c) = None
 text_pieces (TextCache c) = Some (map text_piece (pairs_of c.arrays))
 
 module _ (start : ℕ) where
-  -- the pairs of words that there are, or nothing where the handle is closed or of another kind
+  -- the pairs of words, or nothing if the handle is closed or of another kind
   abbrev pub CopiesWordsOf : Option Table → List Pair → ℕ → ℕ → List Pair → ℕ → Type 0
   CopiesWordsOf table old before code new count =
       Reads word_pairs (λ pairs code. (code ≡ ok) × CopiesPairs start pairs old count new) ((new ≡ old) × (count ≡ before)) table code
 
-  -- the same of pairs under byte strings
+  -- the same for pairs under byte strings
   abbrev pub CopiesTextsOf : Option Table → List TextPair → List ℕ → ℕ → ℕ → List TextPair → List ℕ → ℕ → Type 0
   CopiesTextsOf table old bytes before code new after count =
       Reads text_pieces (λ pieces code. (code ≡ ok) × CopiesTexts start pieces old bytes count new after)

@@ -1,5 +1,5 @@
--- What an exported call does to a handle's table. On a closed handle it answers `closed`, on one of another kind `other_kind`, and
--- nothing happens: what it would write out is kept. Else it does this to what the handle holds.
+-- What an exported call does to a handle's table. On a closed handle it returns `closed`, on one of another kind `other_kind`, and nothing
+-- happens: its outputs keep their values. Else it does this to what the handle holds.
 use Rattle.std.specs.Prelude.{ℕ, ◌≡◌, ◌*◌, ◌⊎◌, Option, Some, None, length}
 use Rattle.collections.specs.Maps.{map_len, map_of}
 use Rattle.bucket_calls.specs.Codes.{closed, no_memory, ok, opened, other_kind}
@@ -46,7 +46,7 @@ module _ {View : Type 0} (of : Table → Option View) (does : View → ℕ → T
   Reads None code = (code ≡ closed) × Kept
   Reads (Some table) code = ReadsView (of table) code
 
--- a call that changes it, where a constructor makes a table of the kind
+-- a call that changes it, if a constructor makes a table of the kind
 module _ {View : Type 0} (of : Table → Option View) (put : View → Table) (does : View → ℕ → View → Type 0) (Kept : Type 0) where
   abbrev OnView : Option View → Table → ℕ → Option Table → Type 0
   OnView None table code new = (code ≡ other_kind) × (new ≡ Some table) × Kept
@@ -56,7 +56,7 @@ module _ {View : Type 0} (of : Table → Option View) (put : View → Table) (do
   On None code new = (code ≡ closed) × (new ≡ None) × Kept
   On (Some table) code new = OnView (of table) table code new
 
--- the same of each kind
+-- the same for each kind
 abbrev pub OnMap : (Maps ℕ ℕ → ℕ → Maps ℕ ℕ → Type 0) → Type 0 → Option Table → ℕ → Option Table → Type 0
 OnMap does Kept = On map_in (λ map. Map map) does Kept
 
@@ -78,7 +78,7 @@ OnCache does Kept = On cache_in (λ cache. Cache cache) does Kept
 abbrev pub OnTextCache : (Caches Text → ℕ → Caches Text → Type 0) → Type 0 → Option Table → ℕ → Option Table → Type 0
 OnTextCache does Kept = On text_cache_in (λ cache. TextCache cache) does Kept
 
--- a closed handle is opened on a table, or stays closed at allocation failure; an open one stays as it is
+-- a closed handle is opened on a table, or stays closed if allocation fails; an open one stays as it is
 abbrev pub Opens : Table → Option Table → ℕ → Option Table → Type 0
 Opens table None code new = ((code ≡ ok) × (new ≡ Some table)) ⊎ ((code ≡ no_memory) × (new ≡ None))
 Opens table (Some held) code new = (code ≡ opened) × (new ≡ Some held)

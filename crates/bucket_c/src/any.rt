@@ -9,12 +9,12 @@ use bucket_calls::codes::{CLOSED, OK, OTHER_KIND};
 use bucket_calls::maps;
 use std::alloc::Global;
 
-/// The version of these calls, 0.2.0: 65536 for a major one, 256 for a minor one.
+/// The version of these calls, 0.2.0: major * 65536 + minor * 256 + patch.
 const VERSION: u32 = 512;
 
 /// Returns the version of these calls.
 ///
-/// O(1). Own.
+/// O(1).
 #[unsafe(no_mangle)]
 pub extern "C" fn bucket_version() -> u32
     ensures { result ≡ 512 }
@@ -24,7 +24,7 @@ pub extern "C" fn bucket_version() -> u32
 
 /// Frees what the handle holds, and closes it.
 ///
-/// O(slots). Own.
+/// O(slots).
 #[unsafe(no_mangle)]
 pub extern "C" fn bucket_free(alloc: Global, handle: &mut Handle)
     ensures { handle.new.held.table ≡ None }
@@ -32,7 +32,7 @@ pub extern "C" fn bucket_free(alloc: Global, handle: &mut Handle)
     let _ = handle.take(alloc);
 }
 
-/// Returns how many pairs or keys the handle holds; 0 where it is closed.
+/// Returns how many pairs or keys the handle holds; 0 if it is closed.
 ///
 /// O(1). `HashMap::len`.
 #[unsafe(no_mangle)]
@@ -54,7 +54,7 @@ pub extern "C" fn bucket_len(handle: &mut Handle) -> usize
     }
 }
 
-/// Returns how many slots the current array has; 0 where the handle is closed.
+/// Returns how many slots the current array has; 0 if the handle is closed.
 ///
 /// O(1). `HashMap::capacity`.
 #[unsafe(no_mangle)]
@@ -99,11 +99,11 @@ pub extern "C" fn bucket_clear(alloc: Global, handle: &mut Handle) -> u32
     OK
 }
 
-/// Makes room for so many pairs more.
+/// Makes room for `additional` more pairs.
 ///
-/// Returns `OK`; `NO_MEMORY` if allocation fails, or if they are too many for every array: all
-/// pairs stay. `CLOSED`; `OTHER_KIND` of a cache, which has the capacity that it was made with.
-/// O(slots). `HashMap::try_reserve`.
+/// Returns `OK`; `NO_MEMORY` if allocation fails, or if no array can hold so many: the pairs stay.
+/// `CLOSED`; `OTHER_KIND` for a cache, whose capacity is fixed when it is made. O(slots).
+/// `HashMap::try_reserve`.
 #[unsafe(no_mangle)]
 pub extern "C" fn bucket_reserve(alloc: Global, handle: &mut Handle, additional: usize) -> u32
     ensures { ReservesMore additional handle.old.held.table result handle.new.held.table }
@@ -123,10 +123,10 @@ pub extern "C" fn bucket_reserve(alloc: Global, handle: &mut Handle, additional:
     code
 }
 
-/// Leaves as few slots as the pairs take, and none for no pair.
+/// Leaves as few slots as the pairs need, and none if there are no pairs.
 ///
-/// Returns `OK`; `NO_MEMORY` if allocation fails, unless there is no pair or the slots are as few
-/// already: all pairs stay. `CLOSED`; `OTHER_KIND` of a cache. O(slots). `HashMap::shrink_to_fit`.
+/// Returns `OK`; `NO_MEMORY` if allocation fails, unless there are no pairs or the slots are as few
+/// already: the pairs stay. `CLOSED`; `OTHER_KIND` for a cache. O(slots). `HashMap::shrink_to_fit`.
 #[unsafe(no_mangle)]
 pub extern "C" fn bucket_shrink(alloc: Global, handle: &mut Handle) -> u32
     ensures { Shrinks handle.old.held.table result handle.new.held.table }

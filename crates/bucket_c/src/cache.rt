@@ -20,10 +20,11 @@ use bucket_calls::seed::{Seed, hash_by};
 use collections::hash_cache::HashCache;
 use std::alloc::Global;
 
-/// Opens a closed handle on an empty cache, of at least and at most so many slots.
+/// Opens a closed handle on an empty cache of at least `minimum` and at most `maximum` slots,
+/// adjusted as by `HashCache::with_capacity`.
 ///
-/// Returns `OK`; `NO_MEMORY`, and the handle stays closed; `OPEN`, and what it holds stays. O(1).
-/// Own.
+/// Returns `OK`; `NO_MEMORY` if allocation fails: the handle stays closed; `OPEN` if it is open
+/// already: what it holds stays. O(1).
 #[unsafe(no_mangle)]
 pub extern "C" fn bucket_cache_new(
     alloc: Global,
@@ -39,10 +40,10 @@ pub extern "C" fn bucket_cache_new(
     handle.open(alloc, Table::Cache(cache))
 }
 
-/// Puts a pair whose key the cache hasn't, and writes out the pair that goes for it.
+/// Inserts a pair if its key is absent, and outputs the evicted pair, if any.
 ///
-/// Returns `OK`; `EVICTED` if a pair went; `PRESENT` if the key is there, `NO_MEMORY` if allocation
-/// fails: all stays. O(1) expected. `HashCache::put`.
+/// Returns `OK`; `EVICTED` if a pair was evicted; `PRESENT` if the key is present, `NO_MEMORY` if
+/// allocation fails: nothing changes in either case. O(1) expected. `HashCache::put`.
 #[unsafe(no_mangle)]
 pub extern "C" fn bucket_cache_put(
     alloc: Global,
@@ -60,11 +61,11 @@ pub extern "C" fn bucket_cache_put(
     on_table!(handle, alloc, Cache(cache) => caches::put(cache, key, value, gone, before))
 }
 
-/// Puts a pair, and writes out the pair that goes for it; or writes its value beside the key that
-/// is there, and writes out the earlier one. Either way the pair is touched.
+/// Inserts a pair if its key is absent, and outputs the evicted pair, if any; else replaces the
+/// value of the present key, and outputs the earlier value. Either way the pair is touched.
 ///
-/// Returns `OK`; `EVICTED` if a pair went; `PRESENT` if the key was there; `NO_MEMORY` if
-/// allocation fails, and all stays. O(1) expected. `HashCache::upsert`.
+/// Returns `OK`; `EVICTED` if a pair was evicted; `PRESENT` if the key was present; `NO_MEMORY` if
+/// allocation fails, and then nothing changes. O(1) expected. `HashCache::upsert`.
 #[unsafe(no_mangle)]
 pub extern "C" fn bucket_cache_upsert(
     alloc: Global,
@@ -82,7 +83,7 @@ pub extern "C" fn bucket_cache_upsert(
     on_table!(handle, alloc, Cache(cache) => caches::upsert(cache, key, value, gone, before))
 }
 
-/// Writes out the value under a key, and touches its pair.
+/// Outputs the value under a key, and touches its pair.
 ///
 /// Returns `OK`, `ABSENT`. O(1) expected. `HashCache::get`.
 #[unsafe(no_mangle)]
@@ -98,7 +99,7 @@ pub extern "C" fn bucket_cache_get(
     on_table!(handle, alloc, Cache(cache) => caches::get(cache, &key, value))
 }
 
-/// Writes out the value under a key, and touches no pair.
+/// Outputs the value under a key, and touches no pair.
 ///
 /// Returns `OK`, `ABSENT`. O(1) expected. `HashCache::peek`.
 #[unsafe(no_mangle)]
@@ -111,7 +112,7 @@ pub extern "C" fn bucket_cache_peek(handle: &mut Handle, key: u64, value: &mut u
     on_shared!(handle, Cache(cache) => caches::peek(cache, &key, value))
 }
 
-/// Tests whether the cache has a key, and touches no pair.
+/// Tests whether the cache contains a key, and touches no pair.
 ///
 /// Returns `OK`, `ABSENT`. O(1) expected. `HashCache::contains`.
 #[unsafe(no_mangle)]
@@ -123,7 +124,7 @@ pub extern "C" fn bucket_cache_contains(handle: &mut Handle, key: u64) -> u32
     on_shared!(handle, Cache(cache) => caches::contains(cache, &key))
 }
 
-/// Takes out the pair whose key is equal, and writes out its value.
+/// Removes the pair under a key, and outputs its value.
 ///
 /// Returns `OK`, `ABSENT`. O(1) expected. `HashCache::remove`.
 #[unsafe(no_mangle)]

@@ -9,7 +9,7 @@ use std::alloc::Global;
 use std::marker::Send;
 use std::mem::replace;
 
-/// A handle of a table, which C only carries: all zero bytes are a closed one.
+/// A handle to a table, opaque to C. All zero bytes are a closed handle.
 #[repr(C)]
 #[derive(Drop)]
 pub struct Handle {
@@ -19,7 +19,7 @@ pub struct Handle {
 }
 
 impl Handle {
-    /// Takes the table out, and leaves the handle closed; `None` where it was closed.
+    /// Takes the table out, and leaves the handle closed; `None` if it was closed.
     pub fn take(&mut self, alloc: Global) -> Option<Box<Table>>
         ensures taken { MatchOption result (self.old.held.table ≡ None)
             (λ table. self.old.held.table ≡ Some table.value) }
@@ -36,7 +36,7 @@ impl Handle {
         None
     }
 
-    /// Puts a table in a closed handle.
+    /// Puts a table into a closed handle.
     pub fn put(&mut self, table: Box<Table>)
         requires { self.old.held.table ≡ None }
         ensures { self.new.held.table ≡ Some table.value }
@@ -64,7 +64,7 @@ impl Handle {
     }
 }
 
-/// No work: it is proved here that a handle may go to another thread.
+/// Compile-time check that a handle may be sent to another thread.
 pub fn handles_cross(handle: &Handle) {
     crosses(handle);
 }

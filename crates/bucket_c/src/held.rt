@@ -1,4 +1,4 @@
-//! A table on the heap as a pointer that C can carry.
+//! A table on the heap, held by a pointer that C can carry.
 ghost use Rattle.std.specs.Prelude.{◌≡◌, true, Option, Some, None, is_some};
 ghost use Rattle.std.specs.Borrow.{sem};
 ghost use Rattle.bucket_c.specs.declared.tables.Table.{Table};
@@ -10,7 +10,7 @@ use std::alloc::Global;
 use std::marker::{Model, Send};
 use std::ptr::null_mut;
 
-/// The pointer of a table's block, or null.
+/// The pointer to a table's block, or null.
 #[repr(C)]
 #[derive(Drop)]
 pub struct Held {
@@ -25,13 +25,13 @@ impl Model for Held {
     ghost also_owns = { λ h. owned h.alloc h.at h.table };
 }
 
-/// It alone owns its table, and each kind of table may go to another thread.
+/// A `Held` is the only owner of its table, and each kind of table may be sent to another thread.
 unsafe impl Send for Held {}
 
 impl Held {
     ghost use Rattle.bucket_c.specs.Lending.{lends_table};
 
-    /// Holds nothing.
+    /// Returns a `Held` without a table.
     pub fn none(alloc: Global) -> Held
         ensures { result.table ≡ None }
     {
@@ -41,7 +41,7 @@ impl Held {
         }
     }
 
-    /// Holds a boxed table.
+    /// Returns a `Held` of a boxed table.
     pub fn of(table: Box<Table>) -> Held
         ensures { result.table ≡ Some table.value }
     {
@@ -56,8 +56,8 @@ impl Held {
         self.into_parts().into_box()
     }
 
-    /// Lends the table, by `&mut` to a reader too: an export can't take a struct with
-    /// `also_shares`.
+    /// Lends the table. It takes `&mut self` even for a reader, since an export can't take a struct
+    /// with `also_shares`.
     pub fn table(&mut self) -> &mut Table
         requires { is_some self.old.table ≡ true }
         ensures* writes_back { sem 𝓛 (lends_table self.entry result) }

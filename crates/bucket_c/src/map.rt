@@ -22,8 +22,8 @@ use std::alloc::Global;
 
 /// Opens a closed handle on an empty map.
 ///
-/// Returns `OK`; `NO_MEMORY`, and the handle stays closed; `OPEN`, and what it holds stays. O(1).
-/// Own.
+/// Returns `OK`; `NO_MEMORY` if allocation fails: the handle stays closed; `OPEN` if it is open
+/// already: what it holds stays. O(1).
 #[unsafe(no_mangle)]
 pub extern "C" fn bucket_map_new(
     alloc: Global,
@@ -38,10 +38,10 @@ pub extern "C" fn bucket_map_new(
     handle.open(alloc, Table::Map(map))
 }
 
-/// Inserts a pair whose key the map hasn't.
+/// Inserts a pair if its key is absent.
 ///
-/// Returns `OK`; `PRESENT` if the key is there, `NO_MEMORY` if allocation fails: all stays. O(1)
-/// expected. `HashMap::insert`.
+/// Returns `OK`; `PRESENT` if the key is present, `NO_MEMORY` if allocation fails: nothing changes
+/// in either case. O(1) expected. `HashMap::insert`.
 #[unsafe(no_mangle)]
 pub extern "C" fn bucket_map_insert(alloc: Global, handle: &mut Handle, key: u64, value: u64) -> u32
     ensures { OnMap (InsertsOne nat_eq word_hash key value) (Unit {0})
@@ -50,11 +50,11 @@ pub extern "C" fn bucket_map_insert(alloc: Global, handle: &mut Handle, key: u64
     on_table!(handle, alloc, Map(map) => maps::insert(map, key, value))
 }
 
-/// Inserts a pair, or writes its value beside the key that is there, and writes out the earlier
-/// one.
+/// Inserts a pair if its key is absent; else replaces the value of the present key, and outputs the
+/// earlier value.
 ///
-/// Returns `OK` if the key was absent, `PRESENT` if it was there; `NO_MEMORY` if allocation fails,
-/// and all stays. O(1) expected. `HashMap::upsert`.
+/// Returns `OK` if the key was absent, `PRESENT` if it was present; `NO_MEMORY` if allocation
+/// fails, and then nothing changes. O(1) expected. `HashMap::upsert`.
 #[unsafe(no_mangle)]
 pub extern "C" fn bucket_map_upsert(
     alloc: Global,
@@ -70,7 +70,7 @@ pub extern "C" fn bucket_map_upsert(
     on_table!(handle, alloc, Map(map) => maps::upsert(map, key, value, earlier))
 }
 
-/// Writes out the value under a key.
+/// Outputs the value under a key.
 ///
 /// Returns `OK`, `ABSENT`. O(1) expected. `HashMap::get`.
 #[unsafe(no_mangle)]
@@ -82,7 +82,7 @@ pub extern "C" fn bucket_map_get(handle: &mut Handle, key: u64, value: &mut u64)
     on_shared!(handle, Map(map) => maps::get(map, &key, value))
 }
 
-/// Tests whether the map has a key.
+/// Tests whether the map contains a key.
 ///
 /// Returns `OK`, `ABSENT`. O(1) expected. `HashMap::contains`.
 #[unsafe(no_mangle)]
@@ -94,7 +94,7 @@ pub extern "C" fn bucket_map_contains(handle: &mut Handle, key: u64) -> u32
     on_shared!(handle, Map(map) => maps::contains(map, &key))
 }
 
-/// Takes out the pair whose key is equal, and writes out its value.
+/// Removes the pair under a key, and outputs its value.
 ///
 /// Returns `OK`, `ABSENT`. O(1) expected. `HashMap::remove`.
 #[unsafe(no_mangle)]
@@ -111,11 +111,11 @@ pub extern "C" fn bucket_map_remove(
     on_table!(handle, alloc, Map(map) => maps::remove(map, &key, value))
 }
 
-/// Adds to the value under a key, modulo 2^64, or inserts the key beside what is to be added;
-/// writes out the sum.
+/// Adds to the value under a key, modulo 2^64, or inserts the key with the summand if it is absent;
+/// outputs the sum.
 ///
-/// Returns `OK` if the key was absent, `PRESENT` if it was there; `NO_MEMORY` if allocation fails,
-/// and all stays. O(1) expected. `HashMap::get_mut`, `HashMap::insert`.
+/// Returns `OK` if the key was absent, `PRESENT` if it was present; `NO_MEMORY` if allocation
+/// fails, and then nothing changes. O(1) expected. `HashMap::get_mut`, `HashMap::insert`.
 #[unsafe(no_mangle)]
 pub extern "C" fn bucket_map_add(
     alloc: Global,
@@ -131,10 +131,10 @@ pub extern "C" fn bucket_map_add(
     on_table!(handle, alloc, Map(map) => copies::add(map, alloc, &key, amount, total))
 }
 
-/// Inserts a pair whose key the map hasn't, and writes out the value that is there then.
+/// Inserts a pair if its key is absent, and outputs the value that is then under the key.
 ///
-/// Returns `OK`; `PRESENT` if the key was there; `NO_MEMORY` if allocation fails, and all stays.
-/// O(1) expected. `HashMap::get`, `HashMap::insert`.
+/// Returns `OK`; `PRESENT` if the key was present; `NO_MEMORY` if allocation fails, and then
+/// nothing changes. O(1) expected. `HashMap::get`, `HashMap::insert`.
 #[unsafe(no_mangle)]
 pub extern "C" fn bucket_map_get_or_insert(
     alloc: Global,
@@ -150,9 +150,9 @@ pub extern "C" fn bucket_map_get_or_insert(
     on_table!(handle, alloc, Map(map) => copies::get_or_insert(map, alloc, &key, value, held))
 }
 
-/// Takes out the pair under a key if it has this value; another one that it has is written out.
+/// Removes the pair under a key if it has the given value; if it has another one, outputs that.
 ///
-/// Returns `OK`; `PRESENT` if it has another one, and it stays; `ABSENT`. O(1) expected.
+/// Returns `OK`; `PRESENT` if it has another one, and then it stays; `ABSENT`. O(1) expected.
 /// `HashMap::get`, `HashMap::remove`.
 #[unsafe(no_mangle)]
 pub extern "C" fn bucket_map_remove_if_equal(

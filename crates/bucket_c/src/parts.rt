@@ -1,4 +1,4 @@
-//! A box in its two parts, in sight of the module that moves them.
+//! A box split into its two parts, which the module that moves them can see.
 ghost use Rattle.std.specs.Prelude.{◌≡◌};
 ghost use Rattle.std.specs.Box.Ownership.{box_owns};
 

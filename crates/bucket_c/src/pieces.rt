@@ -9,8 +9,8 @@ use bucket_calls::codes::{CLOSED, OK, OTHER_KIND};
 use bucket_calls::copying::{Pair, TextPair};
 use bucket_calls::{buckets, copying, texts_in};
 
-/// Copies pairs of a map or a cache of words, from one on, as many as there is room for, and writes
-/// out how many.
+/// Copies pairs of a map or a cache of words from `start` on, as many as there is room for, and
+/// outputs how many.
 ///
 /// Returns `OK`, `CLOSED`, `OTHER_KIND`. O(slots). `HashMap::for_each`.
 #[unsafe(no_mangle)]
@@ -40,8 +40,8 @@ pub extern "C" fn bucket_pairs(
     }
 }
 
-/// Copies pairs under byte strings, from one on, as many as fit: the lengths of their keys and
-/// their values, and their keys one after another. The keys of a set are beside 0.
+/// Copies pairs under byte strings from `start` on, as many as fit: the lengths of their keys and
+/// their values, and their keys one after another. The keys of a set are paired with 0.
 ///
 /// Returns `OK`, `CLOSED`, `OTHER_KIND`. O(slots). `HashMap::for_each`.
 #[unsafe(no_mangle)]
@@ -77,8 +77,9 @@ pub extern "C" fn bucket_texts(
     }
 }
 
-/// Copies the pairs of one bucket, from one on, as many as there is room for, and writes out how
-/// many. A key or a value that is a byte string is told as 0, and a set's keys are beside 0.
+/// Copies the pairs of one bucket from `start` on, as many as there is room for, and outputs how
+/// many. A key or a value that is a byte string is encoded as 0, and a set's keys are paired with
+/// 0.
 ///
 /// Returns `OK`; `ABSENT` past the last bucket; `CLOSED`. O(pairs of the bucket).
 /// `HashMap::for_each_in`.
@@ -108,9 +109,9 @@ pub extern "C" fn bucket_pairs_in(
     }
 }
 
-/// Copies the pairs of one bucket under byte strings, from one on, as many as fit: the lengths of
-/// their keys and their values, and their keys one after another. The keys of a set are beside 0,
-/// those of a store beside the lengths of their values.
+/// Copies the pairs of one bucket under byte strings from `start` on, as many as fit: the lengths
+/// of their keys and their values, and their keys one after another. The keys of a set are paired
+/// with 0, those of a store with the lengths of their values.
 ///
 /// Returns `OK`; `ABSENT` past the last bucket; `CLOSED`, `OTHER_KIND`. O(pairs of the bucket).
 /// `HashMap::for_each_in`.

@@ -21,8 +21,8 @@ use std::alloc::Global;
 
 /// Opens a closed handle on an empty set.
 ///
-/// Returns `OK`; `NO_MEMORY`, and the handle stays closed; `OPEN`, and what it holds stays. O(1).
-/// Own.
+/// Returns `OK`; `NO_MEMORY` if allocation fails: the handle stays closed; `OPEN` if it is open
+/// already: what it holds stays. O(1).
 #[unsafe(no_mangle)]
 pub extern "C" fn bucket_set_new(alloc: Global, handle: &mut Handle, seed: Seed) -> u32
     ensures { (set : Maps ℕ (Unit {0})) × IsNew 0 seed set
@@ -32,10 +32,10 @@ pub extern "C" fn bucket_set_new(alloc: Global, handle: &mut Handle, seed: Seed)
     handle.open(alloc, Table::Set(set))
 }
 
-/// Inserts a key that the set hasn't.
+/// Inserts a key if it is absent.
 ///
-/// Returns `OK`; `PRESENT` if the key is there, `NO_MEMORY` if allocation fails: all stays. O(1)
-/// expected. `HashSet::insert_new`.
+/// Returns `OK`; `PRESENT` if the key is present, `NO_MEMORY` if allocation fails: nothing changes
+/// in either case. O(1) expected. `HashSet::insert_new`.
 #[unsafe(no_mangle)]
 pub extern "C" fn bucket_set_insert(alloc: Global, handle: &mut Handle, key: u64) -> u32
     ensures { OnSet (InsertsOne nat_eq word_hash key tt) (Unit {0})
@@ -44,7 +44,7 @@ pub extern "C" fn bucket_set_insert(alloc: Global, handle: &mut Handle, key: u64
     on_table!(handle, alloc, Set(set) => maps::insert_key(set, key))
 }
 
-/// Tests whether the set has a key.
+/// Tests whether the set contains a key.
 ///
 /// Returns `OK`, `ABSENT`. O(1) expected. `HashSet::contains`.
 #[unsafe(no_mangle)]
@@ -56,7 +56,7 @@ pub extern "C" fn bucket_set_contains(handle: &mut Handle, key: u64) -> u32
     on_shared!(handle, Set(set) => maps::contains_key(set, &key))
 }
 
-/// Takes out the key that is equal.
+/// Removes a key.
 ///
 /// Returns `OK`, `ABSENT`. O(1) expected. `HashSet::take`.
 #[unsafe(no_mangle)]

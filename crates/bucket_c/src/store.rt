@@ -1,5 +1,5 @@
 //! Exports: a store, a map from byte strings to byte strings. It keeps copies of both; an insertion
-//! copies a key that the store hasn't, and can fail for the copies.
+//! copies a key that the store does not contain, and can fail if a copy does.
 //!
 //! Each call but `new` also returns `CLOSED` and `OTHER_KIND`, and then does nothing.
 ghost use Rattle.std.specs.Prelude.{◌≡◌};
@@ -22,8 +22,8 @@ use std::alloc::Global;
 
 /// Opens a closed handle on an empty store.
 ///
-/// Returns `OK`; `NO_MEMORY`, and the handle stays closed; `OPEN`, and what it holds stays. O(1).
-/// Own.
+/// Returns `OK`; `NO_MEMORY` if allocation fails: the handle stays closed; `OPEN` if it is open
+/// already: what it holds stays. O(1).
 #[unsafe(no_mangle)]
 pub extern "C" fn bucket_store_new(
     alloc: Global,
@@ -38,10 +38,10 @@ pub extern "C" fn bucket_store_new(
     handle.open(alloc, Table::Store(map))
 }
 
-/// Inserts a pair whose key the store hasn't.
+/// Inserts a pair if its key is absent.
 ///
-/// Returns `OK`; `PRESENT` if the key is there, `NO_MEMORY` if allocation fails: all stays. O(1)
-/// expected. `HashMap::contains`, `HashMap::insert`.
+/// Returns `OK`; `PRESENT` if the key is present, `NO_MEMORY` if allocation fails: nothing changes
+/// in either case. O(1) expected. `HashMap::contains`, `HashMap::insert`.
 #[unsafe(no_mangle)]
 pub extern "C" fn bucket_store_insert(
     alloc: Global,
@@ -55,10 +55,10 @@ pub extern "C" fn bucket_store_insert(
     on_table!(handle, alloc, Store(map) => stores::insert(map, alloc, key, value))
 }
 
-/// Inserts a pair, or puts its value in the place of the one that is there, which is dropped.
+/// Inserts a pair if its key is absent; else replaces and drops the value of the present key.
 ///
-/// Returns `OK` if the key was absent, `PRESENT` if it was there; `NO_MEMORY` if allocation fails,
-/// and all stays. O(1) expected. `HashMap::get_mut`, `HashMap::insert`.
+/// Returns `OK` if the key was absent, `PRESENT` if it was present; `NO_MEMORY` if allocation
+/// fails, and then nothing changes. O(1) expected. `HashMap::get_mut`, `HashMap::insert`.
 #[unsafe(no_mangle)]
 pub extern "C" fn bucket_store_upsert(
     alloc: Global,
@@ -72,9 +72,9 @@ pub extern "C" fn bucket_store_upsert(
     on_table!(handle, alloc, Store(map) => stores::upsert(map, alloc, key, value))
 }
 
-/// Writes out the bytes of the value under a key, as many as there is room for, and its length.
+/// Outputs the bytes of the value under a key, as many as there is room for, and its length.
 ///
-/// Returns `OK`; `TOO_LONG` if the value is longer than the room; `ABSENT`. O(1) expected, and the
+/// Returns `OK`; `TOO_LONG` if the value is longer than the room; `ABSENT`. O(1) expected, plus the
 /// value's length. `HashMap::get`.
 #[unsafe(no_mangle)]
 pub extern "C" fn bucket_store_get(
@@ -91,7 +91,7 @@ pub extern "C" fn bucket_store_get(
     on_shared!(handle, Store(map) => stores::get(map, key, bytes, len))
 }
 
-/// Tests whether the store has a key.
+/// Tests whether the store contains a key.
 ///
 /// Returns `OK`, `ABSENT`. O(1) expected. `HashMap::get`.
 #[unsafe(no_mangle)]
@@ -104,7 +104,7 @@ pub extern "C" fn bucket_store_contains(handle: &mut Handle, key: &[u8]) -> u32
     on_shared!(handle, Store(map) => maps::contains(map, key))
 }
 
-/// Takes out the pair whose key is equal, and drops it.
+/// Removes the pair under a key, and drops it.
 ///
 /// Returns `OK`, `ABSENT`. O(1) expected. `HashMap::remove`.
 #[unsafe(no_mangle)]

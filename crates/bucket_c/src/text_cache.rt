@@ -1,5 +1,5 @@
-//! Exports: a cache from byte strings to words. `put` and `upsert` copy a key that the cache
-//! hasn't, and can fail for that; no other call copies it.
+//! Exports: a cache from byte strings to words. `put` and `upsert` copy a key that the cache does
+//! not contain, and can fail for that; no other call copies it.
 //!
 //! Each call but `new` also returns `CLOSED` and `OTHER_KIND`, and then does nothing.
 ghost use Rattle.std.specs.Prelude.{◌≡◌};
@@ -21,10 +21,11 @@ use bucket_calls::{caches, texts};
 use collections::hash_cache::HashCache;
 use std::alloc::Global;
 
-/// Opens a closed handle on an empty cache, of at least and at most so many slots.
+/// Opens a closed handle on an empty cache of at least `minimum` and at most `maximum` slots,
+/// adjusted as by `HashCache::with_capacity`.
 ///
-/// Returns `OK`; `NO_MEMORY`, and the handle stays closed; `OPEN`, and what it holds stays. O(1).
-/// Own.
+/// Returns `OK`; `NO_MEMORY` if allocation fails: the handle stays closed; `OPEN` if it is open
+/// already: what it holds stays. O(1).
 #[unsafe(no_mangle)]
 pub extern "C" fn bucket_text_cache_new(
     alloc: Global,
@@ -40,10 +41,10 @@ pub extern "C" fn bucket_text_cache_new(
     handle.open(alloc, Table::TextCache(cache))
 }
 
-/// Puts a pair whose key the cache hasn't, and writes out the pair that goes for it.
+/// Inserts a pair if its key is absent, and outputs the evicted pair, if any.
 ///
-/// Returns `OK`; `EVICTED` if a pair went; `PRESENT` if the key is there, `NO_MEMORY` if allocation
-/// fails: all stays. O(1) expected. `HashCache::put`.
+/// Returns `OK`; `EVICTED` if a pair was evicted; `PRESENT` if the key is present, `NO_MEMORY` if
+/// allocation fails: nothing changes in either case. O(1) expected. `HashCache::put`.
 #[unsafe(no_mangle)]
 pub extern "C" fn bucket_text_cache_put(
     alloc: Global,
@@ -63,11 +64,11 @@ pub extern "C" fn bucket_text_cache_put(
         texts::put(cache, alloc, key, value, gone, len, before))
 }
 
-/// Puts a pair, and writes out the pair that goes for it; or writes its value beside the key that
-/// is there, and writes out the earlier one. Either way the pair is touched.
+/// Inserts a pair if its key is absent, and outputs the evicted pair, if any; else replaces the
+/// value of the present key, and outputs the earlier value. Either way the pair is touched.
 ///
-/// Returns `OK`; `EVICTED` if a pair went; `PRESENT` if the key was there; `NO_MEMORY` if
-/// allocation fails, and all stays. O(1) expected. `HashCache::upsert`.
+/// Returns `OK`; `EVICTED` if a pair was evicted; `PRESENT` if the key was present; `NO_MEMORY` if
+/// allocation fails, and then nothing changes. O(1) expected. `HashCache::upsert`.
 #[unsafe(no_mangle)]
 pub extern "C" fn bucket_text_cache_upsert(
     alloc: Global,
@@ -87,7 +88,7 @@ pub extern "C" fn bucket_text_cache_upsert(
         texts::upsert(cache, alloc, key, value, gone, len, before))
 }
 
-/// Writes out the value under a key, and touches its pair.
+/// Outputs the value under a key, and touches its pair.
 ///
 /// Returns `OK`, `ABSENT`. O(1) expected. `HashCache::get`.
 #[unsafe(no_mangle)]
@@ -104,7 +105,7 @@ pub extern "C" fn bucket_text_cache_get(
     on_table!(handle, alloc, TextCache(cache) => caches::get(cache, key, value))
 }
 
-/// Writes out the value under a key, and touches no pair.
+/// Outputs the value under a key, and touches no pair.
 ///
 /// Returns `OK`, `ABSENT`. O(1) expected. `HashCache::peek`.
 #[unsafe(no_mangle)]
@@ -117,7 +118,7 @@ pub extern "C" fn bucket_text_cache_peek(handle: &mut Handle, key: &[u8], value:
     on_shared!(handle, TextCache(cache) => caches::peek(cache, key, value))
 }
 
-/// Tests whether the cache has a key, and touches no pair.
+/// Tests whether the cache contains a key, and touches no pair.
 ///
 /// Returns `OK`, `ABSENT`. O(1) expected. `HashCache::contains`.
 #[unsafe(no_mangle)]
@@ -130,7 +131,7 @@ pub extern "C" fn bucket_text_cache_contains(handle: &mut Handle, key: &[u8]) ->
     on_shared!(handle, TextCache(cache) => caches::contains(cache, key))
 }
 
-/// Takes out the pair whose key is equal, and writes out its value.
+/// Removes the pair under a key, and outputs its value.
 ///
 /// Returns `OK`, `ABSENT`. O(1) expected. `HashCache::remove`.
 #[unsafe(no_mangle)]

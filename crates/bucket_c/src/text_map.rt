@@ -1,5 +1,5 @@
-//! Exports: a map from byte strings to words. An insertion copies a key that the map hasn't, and
-//! can fail for that; no other call copies it.
+//! Exports: a map from byte strings to words. An insertion copies a key that the map does not
+//! contain, and can fail for that; no other call copies it.
 //!
 //! Each call but `new` also returns `CLOSED` and `OTHER_KIND`, and then does nothing.
 ghost use Rattle.std.specs.Prelude.{◌≡◌, ℕ};
@@ -22,8 +22,8 @@ use std::alloc::Global;
 
 /// Opens a closed handle on an empty map.
 ///
-/// Returns `OK`; `NO_MEMORY`, and the handle stays closed; `OPEN`, and what it holds stays. O(1).
-/// Own.
+/// Returns `OK`; `NO_MEMORY` if allocation fails: the handle stays closed; `OPEN` if it is open
+/// already: what it holds stays. O(1).
 #[unsafe(no_mangle)]
 pub extern "C" fn bucket_text_map_new(
     alloc: Global,
@@ -38,10 +38,10 @@ pub extern "C" fn bucket_text_map_new(
     handle.open(alloc, Table::TextMap(map))
 }
 
-/// Inserts a pair whose key the map hasn't.
+/// Inserts a pair if its key is absent.
 ///
-/// Returns `OK`; `PRESENT` if the key is there, `NO_MEMORY` if allocation fails: all stays. O(1)
-/// expected. `HashMap::contains`, `HashMap::insert`.
+/// Returns `OK`; `PRESENT` if the key is present, `NO_MEMORY` if allocation fails: nothing changes
+/// in either case. O(1) expected. `HashMap::contains`, `HashMap::insert`.
 #[unsafe(no_mangle)]
 pub extern "C" fn bucket_text_map_insert(
     alloc: Global,
@@ -55,11 +55,11 @@ pub extern "C" fn bucket_text_map_insert(
     on_table!(handle, alloc, TextMap(map) => copies::insert(map, alloc, key, value))
 }
 
-/// Inserts a pair, or writes its value beside the key that is there, and writes out the earlier
-/// one.
+/// Inserts a pair if its key is absent; else replaces the value of the present key, and outputs the
+/// earlier value.
 ///
-/// Returns `OK` if the key was absent, `PRESENT` if it was there; `NO_MEMORY` if allocation fails,
-/// and all stays. O(1) expected. `HashMap::get_mut`, `HashMap::insert`.
+/// Returns `OK` if the key was absent, `PRESENT` if it was present; `NO_MEMORY` if allocation
+/// fails, and then nothing changes. O(1) expected. `HashMap::get_mut`, `HashMap::insert`.
 #[unsafe(no_mangle)]
 pub extern "C" fn bucket_text_map_upsert(
     alloc: Global,
@@ -76,7 +76,7 @@ pub extern "C" fn bucket_text_map_upsert(
     on_table!(handle, alloc, TextMap(map) => copies::upsert(map, alloc, key, value, earlier))
 }
 
-/// Writes out the value under a key.
+/// Outputs the value under a key.
 ///
 /// Returns `OK`, `ABSENT`. O(1) expected. `HashMap::get`.
 #[unsafe(no_mangle)]
@@ -89,7 +89,7 @@ pub extern "C" fn bucket_text_map_get(handle: &mut Handle, key: &[u8], value: &m
     on_shared!(handle, TextMap(map) => maps::get(map, key, value))
 }
 
-/// Tests whether the map has a key.
+/// Tests whether the map contains a key.
 ///
 /// Returns `OK`, `ABSENT`. O(1) expected. `HashMap::contains`.
 #[unsafe(no_mangle)]
@@ -102,7 +102,7 @@ pub extern "C" fn bucket_text_map_contains(handle: &mut Handle, key: &[u8]) -> u
     on_shared!(handle, TextMap(map) => maps::contains(map, key))
 }
 
-/// Takes out the pair whose key is equal, and writes out its value.
+/// Removes the pair under a key, and outputs its value.
 ///
 /// Returns `OK`, `ABSENT`. O(1) expected. `HashMap::remove`.
 #[unsafe(no_mangle)]
@@ -119,11 +119,11 @@ pub extern "C" fn bucket_text_map_remove(
     on_table!(handle, alloc, TextMap(map) => maps::remove(map, key, value))
 }
 
-/// Adds to the value under a key, modulo 2^64, or inserts the key beside what is to be added;
-/// writes out the sum.
+/// Adds to the value under a key, modulo 2^64, or inserts the key with the summand if it is absent;
+/// outputs the sum.
 ///
-/// Returns `OK` if the key was absent, `PRESENT` if it was there; `NO_MEMORY` if allocation fails,
-/// and all stays. O(1) expected. `HashMap::get_mut`, `HashMap::insert`.
+/// Returns `OK` if the key was absent, `PRESENT` if it was present; `NO_MEMORY` if allocation
+/// fails, and then nothing changes. O(1) expected. `HashMap::get_mut`, `HashMap::insert`.
 #[unsafe(no_mangle)]
 pub extern "C" fn bucket_text_map_add(
     alloc: Global,
@@ -138,10 +138,10 @@ pub extern "C" fn bucket_text_map_add(
     on_table!(handle, alloc, TextMap(map) => copies::add(map, alloc, key, amount, total))
 }
 
-/// Inserts a pair whose key the map hasn't, and writes out the value that is there then.
+/// Inserts a pair if its key is absent, and outputs the value that is then under the key.
 ///
-/// Returns `OK`; `PRESENT` if the key was there; `NO_MEMORY` if allocation fails, and all stays.
-/// O(1) expected. `HashMap::get`, `HashMap::insert`.
+/// Returns `OK`; `PRESENT` if the key was present; `NO_MEMORY` if allocation fails, and then
+/// nothing changes. O(1) expected. `HashMap::get`, `HashMap::insert`.
 #[unsafe(no_mangle)]
 pub extern "C" fn bucket_text_map_get_or_insert(
     alloc: Global,
@@ -157,9 +157,9 @@ pub extern "C" fn bucket_text_map_get_or_insert(
     on_table!(handle, alloc, TextMap(map) => copies::get_or_insert(map, alloc, key, value, held))
 }
 
-/// Takes out the pair under a key if it has this value; another one that it has is written out.
+/// Removes the pair under a key if it has the given value; if it has another one, outputs that.
 ///
-/// Returns `OK`; `PRESENT` if it has another one, and it stays; `ABSENT`. O(1) expected.
+/// Returns `OK`; `PRESENT` if it has another one, and then it stays; `ABSENT`. O(1) expected.
 /// `HashMap::get`, `HashMap::remove`.
 #[unsafe(no_mangle)]
 pub extern "C" fn bucket_text_map_remove_if_equal(

@@ -1,5 +1,5 @@
-//! Exports: a set of byte strings. An insertion copies a key that the set hasn't, and can fail for
-//! that; no other call copies it.
+//! Exports: a set of byte strings. An insertion copies a key that the set does not contain, and can
+//! fail for that; no other call copies it.
 //!
 //! Each call but `new` also returns `CLOSED` and `OTHER_KIND`, and then does nothing.
 ghost use Rattle.std.specs.Prelude.{◌≡◌};
@@ -22,8 +22,8 @@ use std::alloc::Global;
 
 /// Opens a closed handle on an empty set.
 ///
-/// Returns `OK`; `NO_MEMORY`, and the handle stays closed; `OPEN`, and what it holds stays. O(1).
-/// Own.
+/// Returns `OK`; `NO_MEMORY` if allocation fails: the handle stays closed; `OPEN` if it is open
+/// already: what it holds stays. O(1).
 #[unsafe(no_mangle)]
 pub extern "C" fn bucket_text_set_new(alloc: Global, handle: &mut Handle, seed: Seed) -> u32
     ensures { (set : Maps Text (Unit {0})) × IsNew 0 seed set
@@ -33,10 +33,10 @@ pub extern "C" fn bucket_text_set_new(alloc: Global, handle: &mut Handle, seed: 
     handle.open(alloc, Table::TextSet(set))
 }
 
-/// Inserts a key that the set hasn't.
+/// Inserts a key if it is absent.
 ///
-/// Returns `OK`; `PRESENT` if the key is there, `NO_MEMORY` if allocation fails: all stays. O(1)
-/// expected. `HashSet::contains`, `HashSet::insert_new`.
+/// Returns `OK`; `PRESENT` if the key is present, `NO_MEMORY` if allocation fails: nothing changes
+/// in either case. O(1) expected. `HashSet::contains`, `HashSet::insert_new`.
 #[unsafe(no_mangle)]
 pub extern "C" fn bucket_text_set_insert(alloc: Global, handle: &mut Handle, key: &[u8]) -> u32
     ensures { OnTextSet (InsertsText key.now tt) (Unit {0})
@@ -45,7 +45,7 @@ pub extern "C" fn bucket_text_set_insert(alloc: Global, handle: &mut Handle, key
     on_table!(handle, alloc, TextSet(set) => copies::insert_key(set, alloc, key))
 }
 
-/// Tests whether the set has a key.
+/// Tests whether the set contains a key.
 ///
 /// Returns `OK`, `ABSENT`. O(1) expected. `HashSet::contains`.
 #[unsafe(no_mangle)]
@@ -58,7 +58,7 @@ pub extern "C" fn bucket_text_set_contains(handle: &mut Handle, key: &[u8]) -> u
     on_shared!(handle, TextSet(set) => maps::contains_key(set, key))
 }
 
-/// Takes out the key that is equal.
+/// Removes a key.
 ///
 /// Returns `OK`, `ABSENT`. O(1) expected. `HashSet::remove`.
 #[unsafe(no_mangle)]

@@ -1,4 +1,4 @@
--- What is in a buffer, where the pairs of a list were copied to it in turn.
+-- What is in a buffer after the pairs of a list were copied to it in turn.
 use Rattle.std.proofs.Common.{ℕ, zero, suc, ◌≡◌, ◌+◌, ◌-◌, ◌<◌, ◌≤◌, ◌∙◌, List, [], ◌∷◌, ◌++◌, length, map, take, drop}
 use Rattle.std.proofs.Common.{refl, sym, ap, subst, arith, length-take, length-set}
 use Rattle.std.proofs.lemmas.Bool.{le-ltb, lt-ltb}
@@ -16,7 +16,7 @@ State = ℕ × ℕ × List Pair
 abbrev Copies : State → List (ℕ × ℕ) → State → Type 0
 Copies first pairs last = FoldsTo (λ before pair after. after ≡ next_copied before pair) first pairs last
 
--- nothing is left of no pairs
+-- no pairs leave nothing
 abbrev nothing : List (ℕ × ℕ)
 nothing = []
 

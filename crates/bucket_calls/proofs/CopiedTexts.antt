@@ -1,4 +1,4 @@
--- What is in two buffers, where the pieces of a list were copied to them in turn.
+-- What is in two buffers after the pieces of a list were copied to them in turn.
 use Rattle.std.proofs.Common.{ℕ, zero, suc, ◌≡◌, ◌+◌, ◌-◌, ◌<◌, ◌≤◌, ◌∙◌, Bool, true, false, List, [], ◌∷◌, ◌++◌, length, drop}
 use Rattle.std.proofs.Common.{refl, sym, ap, subst, arith, length-append, length-set}
 use lib.Seq.{paste}
@@ -44,7 +44,7 @@ passes skip room count end rows bytes piece =
     let less : suc skip - 1 ≡ skip = omega arith in
     rw (lt-ltb 0 (suc skip) (omega arith)) (λ i. (place (less i) room count end, rows, bytes))
 
--- nothing is written where there is no room
+-- nothing is written if there is no room
 idle : (skip count end : ℕ) (rows : List TextPair) (bytes : List ℕ) (pieces : List Piece) (last : State)
     → Copies (place skip 0 count end, rows, bytes) pieces last → Went count end rows bytes [] last
 idle skip count end rows bytes [] last is = none_went skip 0 count end rows bytes last is

@@ -1,4 +1,4 @@
--- What a closure does that is called with keys, where each call keeps what is fixed from the start on.
+-- What a closure does that is called with keys, if each call keeps what is fixed from the start on.
 use Rattle.std.proofs.Common.{◌≡◌, ◌∙◌, List, [], ◌∷◌, ap, refl, subst}
 use Rattle.std.specs.Borrow.{Bor}
 use Rattle.std.specs.Fn.{Called, Mut}
@@ -7,7 +7,7 @@ use Rattle.collections.specs.Keys.{CallsEachKey}
 
 module _ {S F K A : Type 0} (calls : Mut S (Bor K × Unit {0}) (Unit {0})) (inside : S → F) (fixed : S → A)
     (R : F → K → F → Type 0) where
-  -- what each call does, where what is fixed is as it was at a state
+  -- what each call does, if what is fixed is as it was at a state
   abbrev Says : S → Type 0
   Says start = (s : S) (own : Bor K) (t : S) → fixed s ≡ fixed start → Called calls s (own, tt) tt t
       → (fixed t ≡ fixed s) × R (inside s) own.now (inside t)

@@ -1,4 +1,4 @@
--- What a map or a cache ends as, once a value that it lent has been given back.
+-- What a map or a cache ends as, once a value that it lent has been returned.
 use Rattle.std.proofs.Common.{◌≡◌, Bool, Option, Some, subst}
 use Rattle.std.specs.Borrow.{MutBor}
 use Rattle.std.specs.Option.{IfSome}
@@ -21,7 +21,7 @@ module _ {K V H : Type 0} (eq : K → K → Bool) (old new : TableView K V H) (w
     (last value : V) (is : loan ≡ Some lent) (same : last ≡ value)
     (holds : IfSome loan (λ l. ((own : K) × Replaces eq (map_of old) wants (own, l.now) last (map_of new))
     × IsWritten true wants eq true old new)) where
-  -- the same of a cache, whose pair is touched
+  -- the same for a cache, whose pair is touched
   pub touches_lent : ((own : K) × Replaces eq (map_of old) wants (own, lent.now) value (map_of new)) × IsWritten true wants eq true old new
   touches_lent =
       let both = rw is at holds in

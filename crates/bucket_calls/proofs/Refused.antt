@@ -1,4 +1,4 @@
--- The pair that comes back where allocation failed.
+-- The pair that is returned if allocation failed.
 use Rattle.std.proofs.Common.{ℕ, ◌≡◌, ◌∙◌, Bool, Err, None, Option, ap, refl, subst, sym}
 use Rattle.bucket_table.specs.declared.hash_table.NotInserted.{NotInserted}
 use Rattle.bucket_table.specs.declared.hash_table.NotInserted.TheVariants.{Memory}
@@ -10,13 +10,13 @@ use Rattle.collections.specs.Orders.{PutsOrKeeps}
 use Rattle.bucket_calls.specs.Caches.{PutsOne}
 use Rattle.bucket_calls.specs.Codes.{no_memory, put_code}
 
--- it is the pair that was handed in
+-- it is the pair that was passed in
 pub handed_back : {K V H : Type 0} (eq : K → K → Bool) (key : K) (value : V) (map : MapView K V H) {why : NotInserted K V} {k : K} {v : V}
     → why ≡ Memory k v → HandsBack eq key value map why → why ≡ Memory key value
 handed_back eq key value map is back =
     let same = subst (HandsBack eq key value map) is back in is ∙ (λ i. Memory (same.0 i) (same.1 i))
 
--- a cache refused it: nothing is written out, and the code says so
+-- allocation failed for a cache: nothing is output, and the code says so
 pub put_refused : {K V H Out : Type 0} (eq : K → K → Bool) (hash_of : H → K → ℕ) (key : K) (value : V) (key_out : Option K → Out)
     (before : V) (old new : TableView K V H) (why : NotInserted K V) {k : K} {v : V} → why ≡ Memory k v
     → Puts eq key value (map_of old) (Err why) (map_of new)

@@ -2,7 +2,7 @@
 use Rattle.std.specs.Prelude.{ℕ, ◌≡◌, ◌<◌, ◌≤◌, List, length}
 use Rattle.bucket_calls.specs.Codes.{absent, ok}
 
--- pairs as words, by what is told of a value or of a key: a key that is a byte string is told as 0, and a set's keys are beside 0
+-- pairs as words, by the encoding of a value or of a key: a key that is a byte string is encoded as 0, and a set's keys are paired with 0
 abbrev pub value_alone : {K V : Type 0} → (V → ℕ) → K × V → ℕ × ℕ
 value_alone word pair = (0, word pair.1)
 

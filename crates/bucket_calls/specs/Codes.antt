@@ -1,4 +1,4 @@
--- The codes that calls answer by, and which answer of the library has which code.
+-- The codes that calls return, and which answer of the library has which code.
 use Rattle.std.specs.Prelude.{ℕ, Option, Some, None, Result, Ok, Err}
 use Rattle.std.specs.declared.alloc.AllocFailed.{AllocFailed}
 use Rattle.bucket_table.specs.declared.hash_table.NotInserted.{NotInserted}
@@ -33,38 +33,38 @@ evicted = 7
 abbrev pub too_long : ℕ
 too_long = 8
 
--- of a look-up and a removal
+-- for a look-up and a removal
 abbrev pub found_code : {A : Type 0} → Option A → ℕ
 found_code (Some answer) = ok
 found_code None = absent
 
--- of an insertion
+-- for an insertion
 abbrev pub insert_code : {A K V : Type 0} → Result A (NotInserted K V) → ℕ
 insert_code (Ok done) = ok
 insert_code (Err (Present key value)) = present
 insert_code (Err (Memory key value)) = no_memory
 
--- of a map's upsert
+-- for a map's upsert
 abbrev pub upsert_code : {V P : Type 0} → Result (Option V) (AllocFailed P) → ℕ
 upsert_code (Ok None) = ok
 upsert_code (Ok (Some earlier)) = present
 upsert_code (Err back) = no_memory
 
--- of what is put into a cache
+-- for a cache's `put`
 abbrev pub put_code : {P K V : Type 0} → Result (Option P) (NotInserted K V) → ℕ
 put_code (Ok None) = ok
 put_code (Ok (Some gone)) = evicted
 put_code (Err (Present key value)) = present
 put_code (Err (Memory key value)) = no_memory
 
--- of a cache's upsert
+-- for a cache's upsert
 abbrev pub cache_upsert_code : {K V P : Type 0} → Result (Upserted K V) (AllocFailed P) → ℕ
 cache_upsert_code (Ok Added) = ok
 cache_upsert_code (Ok (Evicted key value)) = evicted
 cache_upsert_code (Ok (Replaced earlier)) = present
 cache_upsert_code (Err back) = no_memory
 
--- of a call that makes room, or gives slots back
+-- for a call that makes room, or frees slots
 abbrev pub room_code : {A E : Type 0} → Result A E → ℕ
 room_code (Ok done) = ok
 room_code (Err refused) = no_memory

@@ -11,7 +11,7 @@ use Rattle.bucket_calls.specs.declared.seed.Seed.{Seed}
 use Rattle.bucket_calls.specs.declared.seed.SeededHasher.{SeededHasher}
 use Rattle.bucket_calls.specs.declared.seed.SeededHasher.TheVariants.{Fold, Sip}
 
--- SipHash with the seed as its keys, or std's default where the seed is zero
+-- SipHash with the seed as its keys, or std's default if the seed is zero
 abbrev pub initial_hasher : Seed → SeededHasher
 initial_hasher seed =
     cond (nat_eq seed.key0 0 && nat_eq seed.key1 0) (Fold folding.initial) (Sip (sip.with_keys seed.key0 seed.key1))
@@ -21,7 +21,7 @@ abbrev pub written : SeededHasher → List ℕ → SeededHasher
 written (Fold state) bytes = Fold (folding.write state bytes)
 written (Sip state) bytes = Sip (sip.write state bytes)
 
--- what it answers
+-- the hash that it returns
 abbrev pub finished : SeededHasher → ℕ
 finished (Fold state) = folding.finish state
 finished (Sip state) = sip.finish state

@@ -1,4 +1,4 @@
--- Room that is made, and slots that go, by the code of the library's answer.
+-- Room that is made, and slots that are freed, by the code of the library's answer.
 use Rattle.std.specs.Prelude.{ℕ, ◌≡◌, Bool, Result}
 use Rattle.std.specs.declared.alloc.AllocError.{AllocError}
 use Rattle.collections.specs.Capacity.{MakesRoom, ShrinksToFit}
@@ -12,7 +12,7 @@ pub record MakesRoomBy {K V H : Type 0} (eq : K → K → Bool) (additional : �
   pub code_is : code ≡ room_code answer
   pub makes : MakesRoom eq additional old answer new
 
--- slots are given back by the library's call, whose answer has the code
+-- slots are freed by the library's call, whose answer has the code
 pub record ShrinksBy {K V H : Type 0} (eq : K → K → Bool) (old : MapView K V H) (code : ℕ) (new : MapView K V H) : Type 0 where
   pub answer : Result (Unit {0}) AllocError
   pub code_is : code ≡ room_code answer

@@ -6,8 +6,8 @@ use Rattle.bucket_calls.specs.declared.copying.Pair.{Pair}
 use Rattle.bucket_calls.specs.declared.copying.Place.{Place}
 use Rattle.bucket_calls.specs.declared.copying.TextPair.{TextPair}
 
--- how many pairs are to be passed over, how many are copied, and the buffer: a pair is passed over, or is written to the next place,
--- if there is one
+-- how many pairs are to be skipped, how many are copied, and the buffer: a pair is skipped, or is written to the next place, if there is
+-- one
 abbrev pub next_copied : ℕ × ℕ × List Pair → ℕ × ℕ → ℕ × ℕ × List Pair
 next_copied state pair =
     cond (nat_lt 0 state.0) (state.0 - 1, state.1, state.2)
@@ -18,8 +18,8 @@ abbrev pub has_room : Place → List TextPair → List ℕ → List ℕ → Bool
 has_room place rows bytes more =
     nat_lt place.count (length rows) && (nat_le place.end (length bytes) && nat_le (length more) (length bytes - place.end))
 
--- where a copy stands, and the buffers: a piece is passed over, or its row is written to the next one and its bytes behind the others,
--- if they fit; if not, nothing is written from then on
+-- the progress of a copy, and the buffers: a piece is skipped, or its row is written to the next one and its bytes behind the others, if
+-- they fit; if not, nothing is written from then on
 abbrev pub next_text : Place × List TextPair × List ℕ → Piece → Place × List TextPair × List ℕ
 next_text state piece =
     let place : Place = state.0 in

@@ -1,4 +1,4 @@
--- What the calls do that copy their key, a byte string, only where the map, the set or the cache hasn't it.
+-- What the calls do that copy their key, a byte string, only if the map, the set or the cache does not contain it.
 use Rattle.std.specs.Prelude.{ℕ, ◌≡◌, ◌<◌, ◌⊎◌, List, false, length, true}
 use Rattle.collections.specs.CacheWrites.{IsWritten}
 use Rattle.collections.specs.Changes.{Replaces}
@@ -27,21 +27,21 @@ module _ (key : List ℕ) where
 
 module _ (key : List ℕ) (value : ℕ) (bytes : List ℕ) (len before : ℕ) (old : Caches Text) (code : ℕ) (new : Caches Text)
     (bytes_after : List ℕ) (len_after after : ℕ) where
-  -- nothing is written out
+  -- nothing is output
   abbrev pub IsKept : Type 0
   IsKept = (bytes_after ≡ bytes) × (len_after ≡ len) × (after ≡ before)
 
-  -- the cache hasn't the key, and a call does this with a copy of it, or no memory was to be had for one, and all stays
+  -- the cache does not contain the key, and a call does this with a copy of it, or allocation failed for the copy, and nothing changes
   abbrev pub ByNewKey : (Text → Type 0) → Type 0
   ByNewKey Does = (contains_by (has_bytes key) (map_of old) ≡ false)
       × ByCopy (has_bytes key) (0 < length key) Does ((code ≡ no_memory) × (new ≡ old) × IsKept)
 
-  -- the key is there, and nothing changes; or the pair is put. The bytes and the length of a key that goes are written out too
+  -- the key is present, and nothing changes; or the pair is put. The bytes and the length of an evicted key are output too
   unfoldable pub PutsText : Type 0
   PutsText = ((contains_by (has_bytes key) (map_of old) ≡ true) × (code ≡ present) × (new ≡ old) × IsKept)
       ⊎ ByNewKey (λ own. PutsOne text_eq text_hash own value (text_copied bytes len) before old code new (bytes_after, len_after) after)
 
-  -- the same; or the value under the key that is there is another one, and its pair is touched
+  -- the same; or the value under the present key is another one, and its pair is touched
   unfoldable pub UpsertsTextInto : Type 0
   UpsertsTextInto =
       ((own : Text) × (code ≡ present) × Replaces text_eq (map_of old) (has_bytes key) (own, after) value (map_of new)

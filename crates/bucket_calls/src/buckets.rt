@@ -1,4 +1,4 @@
-//! Pairs of one bucket that are copied into a buffer of C.
+//! Copies of one bucket's pairs into a buffer of C.
 ghost use Rattle.std.specs.Prelude.{◌≡◌, cond, map};
 ghost use Rattle.std.specs.Map.{keys_of};
 ghost use Rattle.collections.specs.Maps.{pairs_in_bucket};
@@ -14,14 +14,14 @@ use crate::words::{Bucketed, Word};
 use collections::hash_set::HashSet;
 use std::hash::Hash;
 
-/// The code of a bucket that is there, or not.
+/// Returns the code for a bucket that exists, or doesn't.
 pub fn code_of(there: bool) -> u32
     ensures { result ≡ cond there ok absent }
 {
     if there { OK } else { ABSENT }
 }
 
-/// Copies pairs of a bucket of words, from one on, as many as there is room for, and writes out how
+/// Copies pairs of a bucket of words, from one on, as many as there is room for, and outputs how
 /// many.
 pub fn copy<C: Bucketed<u64, u64>>(
     table: &C,
@@ -45,7 +45,7 @@ pub fn copy<C: Bucketed<u64, u64>>(
     code_of(there)
 }
 
-/// The same of pairs under byte strings, each of which is told as 0.
+/// The same for pairs under byte strings, each of which is encoded as 0.
 pub fn copy_texts<V: Word, C: Bucketed<Vec<u8>, V>>(
     table: &C,
     bucket: usize,
@@ -68,7 +68,7 @@ pub fn copy_texts<V: Word, C: Bucketed<Vec<u8>, V>>(
     code_of(there)
 }
 
-/// The same of a set, whose keys are beside 0.
+/// The same for a set, whose keys are paired with 0.
 pub fn copy_keys<K: Word + Eq + Hash>(
     set: &HashSet<K, SeededHash>,
     bucket: usize,

@@ -1,4 +1,4 @@
-//! Byte strings that are copied, from C and to it.
+//! Copies of byte strings, from C and to it.
 ghost use Rattle.std.specs.Prelude.{◌≡◌, ◌<◌, ◌++◌, IfOk, OnErr, drop, length, take, true};
 ghost use Rattle.bucket_calls.specs.Views.{has_bytes};
 
@@ -8,7 +8,7 @@ use std::alloc::{AllocError, Global};
 ///
 /// # Errors
 ///
-/// Allocation failure. An empty one takes no memory.
+/// Allocation failure. An empty one allocates nothing.
 pub fn copy_of(alloc: Global, bytes: &[u8]) -> Result<Vec<u8>, AllocError>
     ensures copied { IfOk result (λ own. has_bytes bytes.now own ≡ true) }
     ensures memory { OnErr result (0 < length bytes.now) }
@@ -19,7 +19,7 @@ pub fn copy_of(alloc: Global, bytes: &[u8]) -> Result<Vec<u8>, AllocError>
     Vec::from_slice(alloc, bytes)
 }
 
-/// Writes a byte string's length out, and as many of its bytes as there is room for.
+/// Outputs a byte string's length, and as many of its bytes as there is room for.
 pub fn copy_out(text: &[u8], bytes: &mut [u8], len: &mut usize)
     ensures bytes { bytes.new ≡ take (length bytes.old) text.now ++ drop (length text.now)
         bytes.old }

@@ -1,4 +1,4 @@
-//! The library's calls on caches, each of which answers by a code.
+//! The library's calls on caches, each of which returns a code.
 ghost use Rattle.std.specs.Prelude.{◌≡◌, nat_eq, unwrap_or};
 ghost use Rattle.collections.specs.Maps.{get_by, map_of};
 ghost use Rattle.bucket_calls.specs.Caches.{GetsOne, PutsOne, TakesOne, UpsertsInto, text_copied};
@@ -14,7 +14,7 @@ use bucket_table::key_hash::KeyHash;
 use collections::hash_cache::{HashCache, NotInserted, Upserted};
 use collections::key_form::KeyForm;
 
-/// Writes out the value under the keys that a form stands for, and touches its pair.
+/// Outputs the value under the keys that a form stands for, and touches its pair.
 #[inline(always)]
 pub fn get<K: Eq + Drop, H: KeyHash<K>, Q: KeyForm<K, H>>(
     cache: &mut HashCache<K, u64, H>,
@@ -32,7 +32,7 @@ pub fn get<K: Eq + Drop, H: KeyHash<K>, Q: KeyForm<K, H>>(
     }
 }
 
-/// Writes out the value under the keys that a form stands for, and touches no pair.
+/// Outputs the value under the keys that a form stands for, and touches no pair.
 #[inline(always)]
 pub fn peek<K: Eq, H: KeyHash<K>, Q: KeyForm<K, H>>(
     cache: &HashCache<K, u64, H>,
@@ -50,7 +50,7 @@ pub fn peek<K: Eq, H: KeyHash<K>, Q: KeyForm<K, H>>(
     }
 }
 
-/// Tests whether the cache has a key that a form stands for, and touches no pair.
+/// Tests whether the cache contains a key that a form stands for, and touches no pair.
 #[inline(always)]
 pub fn contains<K: Eq, H: KeyHash<K>, Q: KeyForm<K, H>>(cache: &HashCache<K, u64, H>, key: Q) -> u32
     ensures { result ≡ found_code (get_by (Q.stands_for key) (map_of cache.now)) }
@@ -61,7 +61,7 @@ pub fn contains<K: Eq, H: KeyHash<K>, Q: KeyForm<K, H>>(cache: &HashCache<K, u64
     }
 }
 
-/// Takes out the pair under the keys that a form stands for, and writes out its value.
+/// Removes the pair under the keys that a form stands for, and outputs its value.
 #[inline(always)]
 pub fn remove<K: Eq + Drop, H: KeyHash<K>, Q: KeyForm<K, H>>(
     cache: &mut HashCache<K, u64, H>,
@@ -79,7 +79,7 @@ pub fn remove<K: Eq + Drop, H: KeyHash<K>, Q: KeyForm<K, H>>(
     }
 }
 
-/// Puts a pair whose key the cache hasn't, and writes out the pair that goes for it.
+/// Inserts a pair if its key is absent, and outputs the evicted pair, if any.
 pub fn put(
     cache: &mut HashCache<u64, u64, SeededHash>,
     key: u64,
@@ -102,8 +102,8 @@ pub fn put(
     }
 }
 
-/// Puts a pair, and writes out the pair that goes for it; or writes its value beside the key that
-/// is there, and writes out the earlier one. Either way the pair is touched.
+/// Inserts a pair if its key is absent, and outputs the evicted pair, if any; else replaces the
+/// value of the present key, and outputs the earlier value. Either way the pair is touched.
 pub fn upsert(
     cache: &mut HashCache<u64, u64, SeededHash>,
     key: u64,
@@ -129,7 +129,7 @@ pub fn upsert(
     }
 }
 
-/// As `put`, of a cache whose keys are byte strings.
+/// Like `put`, for a cache whose keys are byte strings.
 pub fn put_text(
     cache: &mut HashCache<Vec<u8>, u64, SeededHash>,
     key: Vec<u8>,
@@ -153,7 +153,7 @@ pub fn put_text(
     }
 }
 
-/// As `upsert`, of a cache whose keys are byte strings.
+/// Like `upsert`, for a cache whose keys are byte strings.
 pub fn upsert_text(
     cache: &mut HashCache<Vec<u8>, u64, SeededHash>,
     key: Vec<u8>,

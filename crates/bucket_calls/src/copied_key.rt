@@ -1,4 +1,4 @@
-//! Forms of keys, of which the keys that a collection keeps are made.
+//! Forms of keys from which a collection's own keys are made.
 ghost use Rattle.std.specs.Prelude.{◌≡◌, ◌<◌, IfOk, OnErr, length, true};
 
 use crate::bytes::copy_of;
@@ -7,13 +7,13 @@ use bucket_table::key_hash::KeyHash;
 use collections::key_form::KeyForm;
 use std::alloc::{AllocError, Global};
 
-/// A form in which a key is looked up, of which the key itself can be made. The library's `ToKey`
-/// compares what it made with the form; here it is known.
+/// A form in which a key is looked up, from which the key itself can be made. The library's `ToKey`
+/// compares the key that it made with the form; here they are known to match.
 pub trait CopiedKey<K: Eq, H: KeyHash<K>>: KeyForm<K, H> {
     /// Whether the call may fail for the form.
     ghost may_fail: { Self → Type 0 };
 
-    /// Returns a key for which the form stands.
+    /// Returns a key that the form stands for.
     ///
     /// # Errors
     ///
@@ -23,7 +23,7 @@ pub trait CopiedKey<K: Eq, H: KeyHash<K>>: KeyForm<K, H> {
         ensures memory { OnErr result (may_fail self) };
 }
 
-/// A word takes no memory.
+/// Copying a word allocates nothing.
 impl<'k> CopiedKey<u64, SeededHash> for &'k u64 {
     ghost may_fail = { λ form. ⊥ };
 
@@ -33,7 +33,7 @@ impl<'k> CopiedKey<u64, SeededHash> for &'k u64 {
     }
 }
 
-/// A byte string is copied. An empty one takes no memory.
+/// A byte string is copied. An empty one allocates nothing.
 impl<'s> CopiedKey<Vec<u8>, SeededHash> for &'s [u8] {
     ghost may_fail = { λ form. 0 < length form.now };
 

@@ -1,5 +1,5 @@
-//! The library's calls that are given a key in some form, each of which answers by a code. The key
-//! itself is made only where the map or the set hasn't it.
+//! The library's calls that are given a key in some form, each of which returns a code. The key
+//! itself is made only if the map or the set does not contain it.
 ghost use Rattle.std.specs.Prelude.{◌≡◌, false};
 ghost use Rattle.bucket_calls.specs.Copies.{AddsCopy, AddsTo, GetsOrInserts, InsertsCopy};
 ghost use Rattle.bucket_calls.specs.Copies.{UpsertsCopy};
@@ -14,7 +14,7 @@ use collections::hash_set::HashSet;
 use std::alloc::Global;
 use std::mem::replace;
 
-/// Inserts a pair whose key the map hasn't.
+/// Inserts a pair if its key is absent.
 #[tactic(auto, unfolding(crate::specs::Copies::InsertsCopy))]
 pub fn insert<K: Eq + Drop, V: Drop, H: KeyHash<K>, Q: CopiedKey<K, H>>(
     map: &mut HashMap<K, V, H>,
@@ -31,8 +31,8 @@ pub fn insert<K: Eq + Drop, V: Drop, H: KeyHash<K>, Q: CopiedKey<K, H>>(
     add_copy(map, alloc, key, value)
 }
 
-/// Inserts a pair, or writes its value beside the key that is there, and writes out the earlier
-/// one.
+/// Inserts a pair if its key is absent; else replaces the value of the present key, and outputs the
+/// earlier value.
 #[tactic(auto, unfolding(crate::specs::Copies::PutsCopy))]
 pub fn upsert<K: Eq + Drop, V: Drop, H: KeyHash<K>, Q: CopiedKey<K, H>>(
     map: &mut HashMap<K, V, H>,
@@ -56,8 +56,8 @@ pub fn upsert<K: Eq + Drop, V: Drop, H: KeyHash<K>, Q: CopiedKey<K, H>>(
     }
 }
 
-/// Adds to the word under a key, or inserts the key beside what is to be added, and writes out the
-/// sum.
+/// Adds to the word under a key, or inserts the key with the summand if it is absent, and outputs
+/// the sum.
 #[tactic(auto, unfolding(crate::specs::Copies::PutsCopy))]
 pub fn add<K: Eq + Drop, H: KeyHash<K>, Q: CopiedKey<K, H>>(
     map: &mut HashMap<K, u64, H>,
@@ -88,7 +88,7 @@ pub fn add<K: Eq + Drop, H: KeyHash<K>, Q: CopiedKey<K, H>>(
     }
 }
 
-/// Inserts a pair whose key the map hasn't, and writes out the value that is there then.
+/// Inserts a pair if its key is absent, and outputs the value that is then under the key.
 #[tactic(auto, unfolding(crate::specs::Copies::InsertsCopy))]
 pub fn get_or_insert<K: Eq + Drop, H: KeyHash<K>, Q: CopiedKey<K, H>>(
     map: &mut HashMap<K, u64, H>,
@@ -112,7 +112,7 @@ pub fn get_or_insert<K: Eq + Drop, H: KeyHash<K>, Q: CopiedKey<K, H>>(
     code
 }
 
-/// Makes a key that the map hasn't, and inserts it with a value.
+/// Makes a key that the map does not contain, and inserts it with a value.
 #[inline(always)]
 pub fn add_copy<K: Eq + Drop, V: Drop, H: KeyHash<K>, Q: CopiedKey<K, H>>(
     map: &mut HashMap<K, V, H>,
@@ -130,7 +130,7 @@ pub fn add_copy<K: Eq + Drop, V: Drop, H: KeyHash<K>, Q: CopiedKey<K, H>>(
     }
 }
 
-/// Inserts a key that the set hasn't.
+/// Inserts a key if it is absent.
 #[tactic(auto, unfolding(crate::specs::Copies::InsertsCopy))]
 pub fn insert_key<K: Eq + Drop, H: KeyHash<K>, Q: CopiedKey<K, H>>(
     set: &mut HashSet<K, H>,

@@ -1,4 +1,4 @@
-//! Pairs that are copied into buffers of C.
+//! Copies of pairs into buffers of C.
 ghost use Rattle.std.specs.Prelude.{◌≡◌, map};
 ghost use Rattle.std.specs.Map.{keys_of};
 ghost use Rattle.bucket_calls.specs.Copying.{CopiesPairs, CopiesTexts, key_piece, text_piece};
@@ -16,7 +16,7 @@ pub struct Pair {
     pub value: u64,
 }
 
-/// A pair under a byte string: the key's length, and the value; of a store, the value's length.
+/// A pair under a byte string: the key's length, and the value; for a store, the value's length.
 #[repr(C)]
 #[derive(Clone, Copy)]
 pub struct TextPair {
@@ -24,7 +24,7 @@ pub struct TextPair {
     pub value: u64,
 }
 
-/// Copies a pair to the next place, where none is to be passed over first and there is room.
+/// Copies a pair to the next place, if no more pairs are to be skipped and there is room.
 #[inline(always)]
 pub fn copy_next(skip: &mut usize, count: &mut usize, out: &mut [Pair], key: u64, value: u64)
     ensures { (skip.new, count.new, out.new) ≡ next_copied (skip.old, count.old, out.old) (
@@ -40,7 +40,7 @@ pub fn copy_next(skip: &mut usize, count: &mut usize, out: &mut [Pair], key: u64
     }
 }
 
-/// Copies pairs of words from one on, as many as there is room for, and returns how many.
+/// Copies pairs of words from `start` on, as many as there is room for, and returns how many.
 pub fn copy<C: Bucketed<u64, u64>>(table: &C, start: usize, out: &mut [Pair]) -> usize
     ensures { CopiesPairs start (C.map table.now).entries out.old result out.new }
 {
@@ -54,7 +54,7 @@ pub fn copy<C: Bucketed<u64, u64>>(table: &C, start: usize, out: &mut [Pair]) ->
     count
 }
 
-/// Where a copy of pairs under byte strings stands: how many are to be passed over, for how many
+/// The progress of a copy of pairs under byte strings: how many are to be skipped, for how many
 /// there may be room, how many are copied, and where the bytes of their keys end.
 #[derive(Clone, Copy)]
 pub struct Place {
@@ -64,8 +64,8 @@ pub struct Place {
     pub end: usize,
 }
 
-/// Copies a pair to the next row, and its key behind the others, where none is to be passed over
-/// first and they fit.
+/// Copies a pair to the next row, and its key behind the others, if no more pairs are to be skipped
+/// and both fit.
 pub fn copy_next_text(
     place: &mut Place,
     rows: &mut [TextPair],
@@ -97,7 +97,7 @@ pub fn copy_next_text(
     place.end = end;
 }
 
-/// Copies pairs under byte strings from one on, as many as fit, and returns how many.
+/// Copies pairs under byte strings from `start` on, as many as fit, and returns how many.
 pub fn copy_texts<C: Bucketed<Vec<u8>, u64>>(
     table: &C,
     start: usize,
@@ -122,7 +122,7 @@ pub fn copy_texts<C: Bucketed<Vec<u8>, u64>>(
     place.count
 }
 
-/// Copies a set's keys from one on, as many as fit, and returns how many.
+/// Copies a set's keys from `start` on, as many as fit, and returns how many.
 pub fn copy_keys(
     set: &HashSet<Vec<u8>, SeededHash>,
     start: usize,

@@ -1,4 +1,4 @@
-//! The library's calls on maps and sets, each of which answers by a code.
+//! The library's calls on maps and sets, each of which returns a code.
 ghost use Rattle.std.specs.Prelude.{◌≡◌};
 ghost use Rattle.collections.specs.Maps.{get_by};
 ghost use Rattle.bucket_calls.specs.Codes.{found_code};
@@ -12,7 +12,7 @@ use collections::hash_map::{HashMap, NotInserted};
 use collections::hash_set::HashSet;
 use collections::key_form::KeyForm;
 
-/// Inserts a pair whose key the map hasn't.
+/// Inserts a pair if its key is absent.
 #[inline(always)]
 pub fn insert<K: Eq + Drop, V: Drop, H: KeyHash<K>>(
     map: &mut HashMap<K, V, H>,
@@ -28,8 +28,8 @@ pub fn insert<K: Eq + Drop, V: Drop, H: KeyHash<K>>(
     }
 }
 
-/// Inserts a pair, or writes its value beside the key that is there, and writes out the earlier
-/// one.
+/// Inserts a pair if its key is absent; else replaces the value of the present key, and outputs the
+/// earlier value.
 #[inline(always)]
 pub fn upsert<K: Eq + Drop, H: KeyHash<K>>(
     map: &mut HashMap<K, u64, H>,
@@ -49,7 +49,7 @@ pub fn upsert<K: Eq + Drop, H: KeyHash<K>>(
     }
 }
 
-/// Makes room in a map for so many pairs more.
+/// Makes room in a map for `additional` more pairs.
 pub fn reserve<K: Eq + Drop, V: Drop, H: KeyHash<K>>(
     map: &mut HashMap<K, V, H>,
     additional: usize,
@@ -62,7 +62,7 @@ pub fn reserve<K: Eq + Drop, V: Drop, H: KeyHash<K>>(
     }
 }
 
-/// Leaves as few slots as a map's pairs take.
+/// Leaves as few slots as a map's pairs need.
 pub fn shrink<K: Eq + Drop, V: Drop, H: KeyHash<K>>(map: &mut HashMap<K, V, H>) -> u32
     ensures { ShrinksBy K.eq map.old result map.new }
 {
@@ -72,7 +72,7 @@ pub fn shrink<K: Eq + Drop, V: Drop, H: KeyHash<K>>(map: &mut HashMap<K, V, H>) 
     }
 }
 
-/// Makes room in a set for so many keys more.
+/// Makes room in a set for `additional` more keys.
 pub fn reserve_keys<K: Eq + Drop, H: KeyHash<K>>(set: &mut HashSet<K, H>, additional: usize) -> u32
     ensures { MakesRoomBy K.eq additional set.old result set.new }
 {
@@ -82,7 +82,7 @@ pub fn reserve_keys<K: Eq + Drop, H: KeyHash<K>>(set: &mut HashSet<K, H>, additi
     }
 }
 
-/// Leaves as few slots as a set's keys take.
+/// Leaves as few slots as a set's keys need.
 pub fn shrink_keys<K: Eq + Drop, H: KeyHash<K>>(set: &mut HashSet<K, H>) -> u32
     ensures { ShrinksBy K.eq set.old result set.new }
 {
@@ -92,7 +92,7 @@ pub fn shrink_keys<K: Eq + Drop, H: KeyHash<K>>(set: &mut HashSet<K, H>) -> u32
     }
 }
 
-/// Writes out the value under the keys that a form stands for.
+/// Outputs the value under the keys that a form stands for.
 #[inline(always)]
 pub fn get<K: Eq, H: KeyHash<K>, Q: KeyForm<K, H>>(
     map: &HashMap<K, u64, H>,
@@ -110,7 +110,7 @@ pub fn get<K: Eq, H: KeyHash<K>, Q: KeyForm<K, H>>(
     }
 }
 
-/// Tests whether the map has a key that a form stands for.
+/// Tests whether the map contains a key that a form stands for.
 #[inline(always)]
 pub fn contains<K: Eq, V, H: KeyHash<K>, Q: KeyForm<K, H>>(map: &HashMap<K, V, H>, key: Q) -> u32
     ensures { result ≡ found_code (get_by (Q.stands_for key) map.now) }
@@ -121,7 +121,7 @@ pub fn contains<K: Eq, V, H: KeyHash<K>, Q: KeyForm<K, H>>(map: &HashMap<K, V, H
     }
 }
 
-/// Takes out the pair under the keys that a form stands for, and writes out its value.
+/// Removes the pair under the keys that a form stands for, and outputs its value.
 #[inline(always)]
 pub fn remove<K: Eq + Drop, H: KeyHash<K>, Q: KeyForm<K, H>>(
     map: &mut HashMap<K, u64, H>,
@@ -139,7 +139,7 @@ pub fn remove<K: Eq + Drop, H: KeyHash<K>, Q: KeyForm<K, H>>(
     }
 }
 
-/// Takes out the pair under the keys that a form stands for, and drops it.
+/// Removes the pair under the keys that a form stands for, and drops it.
 pub fn drop_pair<K: Eq + Drop, V: Drop, H: KeyHash<K>, Q: KeyForm<K, H>>(
     map: &mut HashMap<K, V, H>,
     key: Q,
@@ -152,8 +152,8 @@ pub fn drop_pair<K: Eq + Drop, V: Drop, H: KeyHash<K>, Q: KeyForm<K, H>>(
     }
 }
 
-/// Takes out the pair under the keys that a form stands for, if it has this value; another one that
-/// it has is written out.
+/// Removes the pair under the keys that a form stands for if it has the given value; if it has
+/// another one, outputs that.
 #[inline(always)]
 pub fn remove_if_equal<K: Eq + Drop, H: KeyHash<K>, Q: KeyForm<K, H>>(
     map: &mut HashMap<K, u64, H>,
@@ -175,7 +175,7 @@ pub fn remove_if_equal<K: Eq + Drop, H: KeyHash<K>, Q: KeyForm<K, H>>(
     OK
 }
 
-/// Inserts a key that the set hasn't.
+/// Inserts a key if it is absent.
 #[inline(always)]
 pub fn insert_key<K: Eq + Drop, H: KeyHash<K>>(set: &mut HashSet<K, H>, key: K) -> u32
     ensures { InsertsOne K.eq H.hash_of key tt set.old result set.new }
@@ -187,7 +187,7 @@ pub fn insert_key<K: Eq + Drop, H: KeyHash<K>>(set: &mut HashSet<K, H>, key: K) 
     }
 }
 
-/// Tests whether the set has a key that a form stands for.
+/// Tests whether the set contains a key that a form stands for.
 #[inline(always)]
 pub fn contains_key<K: Eq, H: KeyHash<K>, Q: KeyForm<K, H>>(set: &HashSet<K, H>, key: Q) -> u32
     ensures { result ≡ found_code (get_by (Q.stands_for key) set.now) }
@@ -195,7 +195,7 @@ pub fn contains_key<K: Eq, H: KeyHash<K>, Q: KeyForm<K, H>>(set: &HashSet<K, H>,
     if set.contains(key) { OK } else { ABSENT }
 }
 
-/// Takes out the key that a form stands for.
+/// Removes the key that a form stands for.
 #[inline(always)]
 pub fn remove_key<K: Eq + Drop, H: KeyHash<K>, Q: KeyForm<K, H>>(
     set: &mut HashSet<K, H>,

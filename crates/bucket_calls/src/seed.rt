@@ -1,4 +1,4 @@
-//! How keys are hashed: by std's default, whose seed is fixed, or by SipHash with keys of a seed.
+//! How keys are hashed: by std's default, whose seed is fixed, or by SipHash with a seed's keys.
 ghost use Rattle.std.specs.Prelude.{◌≡◌};
 ghost use Rattle.bucket_calls.specs.Hashing.{finished, initial_hasher, written};
 
@@ -7,7 +7,7 @@ use core::hash::keyed_hasher;
 use std::hash::{BuildHasher, DefaultHasher, FoldHasher, Hasher};
 
 /// 16 bytes of a seed. If all are zero, keys are hashed by `FoldHasher`, else by SipHash-1-3 with
-/// these two keys.
+/// the seed's two words as its keys.
 #[repr(C)]
 #[derive(Clone, Copy)]
 pub struct Seed {
@@ -22,17 +22,17 @@ pub enum SeededHasher {
     Sip(DefaultHasher),
 }
 
-/// Begins each hash by a copy of one hasher, whose type it names.
+/// A `BuildHasher` that copies one hasher, whose type it names, for each hash.
 #[derive(Clone, Copy)]
 pub struct Beginning<H> {
-    /// The hasher that was told nothing.
+    /// The hasher before any input.
     pub initial: H,
 }
 
 /// How the keys of a collection are hashed.
 pub type SeededHash = StdHash<Beginning<SeededHasher>>;
 
-/// Returns the hash of a seed.
+/// Returns the hasher that a seed stands for.
 pub fn hash_by(seed: Seed) -> SeededHash
     ensures { result.builder.initial ≡ initial_hasher seed }
 {

@@ -1,4 +1,4 @@
-//! The library's calls on maps from byte strings to byte strings, each of which answers by a code.
+//! The library's calls on maps from byte strings to byte strings, each of which returns a code.
 ghost use Rattle.std.specs.Prelude.{◌≡◌};
 ghost use Rattle.collections.specs.Maps.{get_by};
 ghost use Rattle.bucket_calls.specs.Stores.{FindsBytes, InsertsBytes, UpsertsBytes};
@@ -11,7 +11,7 @@ use crate::seed::SeededHash;
 use collections::hash_map::HashMap;
 use std::alloc::Global;
 
-/// Inserts a pair whose key the map hasn't.
+/// Inserts a pair if its key is absent.
 #[tactic(auto, unfolding(crate::specs::Stores::InsertsBytes))]
 pub fn insert(
     map: &mut HashMap<Vec<u8>, Vec<u8>, SeededHash>,
@@ -30,7 +30,7 @@ pub fn insert(
     }
 }
 
-/// Inserts a pair, or puts its value in the place of the one that is there.
+/// Inserts a pair if its key is absent; else replaces the value of the present key.
 #[tactic(auto, unfolding(crate::specs::Stores::UpsertsBytes))]
 pub fn upsert(
     map: &mut HashMap<Vec<u8>, Vec<u8>, SeededHash>,
@@ -49,7 +49,7 @@ pub fn upsert(
     }
 }
 
-/// Writes out the bytes of the value under a key, as many as there is room for, and its length.
+/// Outputs the bytes of the value under a key, as many as there is room for, and its length.
 pub fn get(
     map: &HashMap<Vec<u8>, Vec<u8>, SeededHash>,
     key: &[u8],

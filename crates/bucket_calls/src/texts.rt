@@ -1,5 +1,5 @@
-//! Calls on caches of byte strings, which own copies of their keys: a key is copied only where the
-//! cache hasn't it.
+//! Calls on caches of byte strings, which own copies of their keys: a key is copied only if the
+//! cache does not contain it.
 ghost use Rattle.std.specs.Prelude.{◌≡◌};
 ghost use Rattle.bucket_calls.specs.Texts.{PutsText, UpsertsTextInto};
 
@@ -11,7 +11,7 @@ use collections::hash_cache::HashCache;
 use std::alloc::Global;
 use std::mem::replace;
 
-/// Puts a pair whose key the cache hasn't, and writes out the pair that goes for it.
+/// Inserts a pair if its key is absent, and outputs the evicted pair, if any.
 #[tactic(auto, unfolding(crate::specs::Texts::PutsText))]
 pub fn put(
     cache: &mut HashCache<Vec<u8>, u64, SeededHash>,
@@ -35,8 +35,8 @@ pub fn put(
     }
 }
 
-/// Puts a pair, and writes out the pair that goes for it; or writes its value beside the key that
-/// is there, and writes out the earlier one.
+/// Inserts a pair if its key is absent, and outputs the evicted pair, if any; else replaces the
+/// value of the present key, and outputs the earlier value.
 #[tactic(auto, unfolding(crate::specs::Texts::UpsertsTextInto))]
 pub fn upsert(
     cache: &mut HashCache<Vec<u8>, u64, SeededHash>,

@@ -1,4 +1,4 @@
-//! Pairs of one bucket under byte strings that are copied into two buffers of C.
+//! Copies of one bucket's pairs under byte strings into two buffers of C.
 ghost use Rattle.std.specs.Prelude.{◌≡◌, map};
 ghost use Rattle.std.specs.Map.{keys_of};
 ghost use Rattle.collections.specs.Maps.{pairs_in_bucket};
@@ -12,8 +12,8 @@ use crate::seed::SeededHash;
 use crate::words::{Bucketed, Word};
 use collections::hash_set::HashSet;
 
-/// Copies pairs of a bucket, from one on, as many as fit, and writes out how many. The values of a
-/// store are told as their lengths.
+/// Copies pairs of a bucket from `start` on, as many as fit, and outputs how many. The values of a
+/// store are encoded as their lengths.
 pub fn copy<V: Word, C: Bucketed<Vec<u8>, V>>(
     table: &C,
     bucket: usize,
@@ -43,7 +43,7 @@ pub fn copy<V: Word, C: Bucketed<Vec<u8>, V>>(
     code_of(there)
 }
 
-/// The same of a set, whose keys are beside 0.
+/// The same for a set, whose keys are paired with 0.
 pub fn copy_keys(
     set: &HashSet<Vec<u8>, SeededHash>,
     bucket: usize,

@@ -11,22 +11,22 @@ use std::hash::Hash;
 
 /// A key or a value, as a word of C.
 pub trait Word {
-    /// The word where no bytes are copied.
+    /// The word if no bytes are copied.
     ghost word: { Self → ℕ };
 
-    /// The word beside a key's bytes.
+    /// The word next to a key that is copied as bytes.
     ghost beside: { Self → ℕ };
 
-    /// Returns the word where no bytes are copied.
+    /// Returns the word if no bytes are copied.
     fn word(&self) -> u64
         ensures { result ≡ word self.now };
 
-    /// Returns the word beside a key's bytes.
+    /// Returns the word next to a key that is copied as bytes.
     fn beside(&self) -> u64
         ensures { result ≡ beside self.now };
 }
 
-/// A word is told as itself.
+/// A `u64` is encoded as itself.
 impl Word for u64 {
     ghost word = { λ own. own };
 
@@ -43,7 +43,7 @@ impl Word for u64 {
     }
 }
 
-/// A byte string is told as 0; beside a key's bytes as its length.
+/// A byte string is encoded as 0; next to a key that is copied as bytes, as its length.
 impl Word for Vec<u8> {
     ghost word = { λ own. 0 };
 
@@ -62,7 +62,7 @@ impl Word for Vec<u8> {
 
 /// A map or a cache, with its pairs in buckets.
 pub trait Bucketed<K, V> {
-    /// The map that it is.
+    /// The map that the collection is.
     ghost map: { Self → Maps K V };
 
     /// Calls a function with each pair.

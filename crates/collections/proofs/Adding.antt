@@ -1,4 +1,4 @@
--- A pair was added, and its value lent: what is written through the loan stands beside the key.
+-- A pair was added, and its value lent: what is written through the loan is the value under the key.
 use Rattle.std.proofs.Common.{ℕ, suc, ◌≡◌, ◌<◌, ◌*◌, length, Bool, false, not, Err, Ok, OnOk, Result, Some, None, List, [], ◌∷◌, refl, sym}
 use Rattle.std.proofs.Common.{ap}
 use Rattle.std.proofs.Common.{subst, ◌∙◌, arith}
@@ -44,19 +44,19 @@ module _ {K V : Type 0} (eq : K → K → Bool) (laws : IsEquivalence eq) where
       let none = absent_from_lookup eq laws p.0 ps (lookup-none (eq p.0) ps (none_past_head laws p.0 p ps distinct (laws.refl p.0))) in
       rw (laws.refl p.0, all_others p.0 ps none) refl
 
-  -- of two lists that are the same but for the order, one pair less leaves lists that are
+  -- if two lists are equal up to order, removing one pair leaves lists that are too
   pub permuted_rest : (p : K × V) (xs ys : List (K × V)) → IsDistinct eq (keys_of (p ∷ xs)) → IsPermutation (p ∷ xs) (p ∷ ys)
       → IsPermutation xs ys
   permuted_rest p xs ys distinct moved =
       let less = IsPermutation-filter (λ (o : K × V). not (eq p.0 o.0)) (p ∷ xs) (p ∷ ys) moved in
       rw (not_first p xs distinct, not_first p ys (distinct_permuted eq laws (p ∷ xs) (p ∷ ys) moved distinct)) at less
 
-  -- what a look-up doesn't find, another order hasn't either
+  -- what a look-up doesn't find is absent in another order too
   pub absent_permuted : (k : K) (xs ys : List (K × V)) → lookup (eq k) xs ≡ None → IsPermutation xs ys → IsAbsent (λ own. eq own k) ys
   absent_permuted k xs ys none moved = λ i d below.
       laws.symm _ k ∙ All-permutation (λ (o : K × V). eq k o.0 ≡ false) xs ys moved (absent_from_lookup eq laws k xs none) i d below
 
--- what a look-up doesn't find isn't there where a bucket was found for it either
+-- what a look-up doesn't find is also absent after a bucket was found for it
 pub found_absent : {K V H E : Type 0} (eq : K → K → Bool) (laws : IsEquivalence eq) (key : K) (hash : ℕ) (old new : TableView K V H)
     (answer : Result (Side × ℕ) E) → lookup (eq key) (pairs_of old.arrays) ≡ None → Finds Counted 83 hash old answer new
     → OnOk answer (IsAbsent (λ own. eq own key) (pairs_of new.arrays))
@@ -64,13 +64,13 @@ found_absent eq laws key hash old new (Ok found) none finds =
     absent_permuted eq laws key (pairs_of old.arrays) (pairs_of new.arrays) none finds.map.pairs
 found_absent eq laws key hash old new (Err refused) none finds = tt
 
--- and the hasher stays, whether one was found or not
+-- and the hasher stays, whether or not a bucket was found
 pub found_hasher : {K V H E : Type 0} (hash : ℕ) (old new : TableView K V H) (answer : Result (Side × ℕ) E)
     → Finds Counted 83 hash old answer new → old.hasher ≡ new.hasher
 found_hasher hash old new (Ok found) finds = sym (ap (λ others. others.hasher) finds.map.others)
 found_hasher hash old new (Err refused) finds = sym (ap (λ others. others.hasher) finds.prepared.map.others)
 
--- a bucket without a free slot, named otherwise
+-- a bucket without a free slot, under other names
 pub full_there : {K V H : Type 0} (keeps : ℕ → Bool) (t s : TableView K V H) (side to : Side) (index at : ℕ)
     → t ≡ s → side ≡ to → index ≡ at
     → HasNoSlot 83 keeps (bucket_on t.arrays side index) → HasNoSlot 83 keeps (bucket_on s.arrays to at)
@@ -79,7 +79,7 @@ full_there {K} {V} {H} keeps t s side to index at same here there none =
     (subst (λ (k : Side). HasNoSlot 83 keeps (bucket_on t.arrays k at)) here
     (subst (λ (i : ℕ). HasNoSlot 83 keeps (bucket_on t.arrays side i)) there none))
 
--- a bucket that was changed, named otherwise
+-- a bucket that was changed, under other names
 pub changed_there : {K V H : Type 0} (added t s : TableView K V H) (side to : Side) (index at : ℕ)
     (change : BucketView K V → BucketView K V)
     → t ≡ s → side ≡ to → index ≡ at → added ≡ with_bucket t side index (change (bucket_on t.arrays side index))
@@ -98,12 +98,12 @@ pair_named slot p q byte named found =
 
 module _ {K V H : Type 0} (eq : K → K → Bool) (laws : IsEquivalence eq) (kind : ℕ) (t : TableView K V H)
     (distinct : IsDistinct eq (keys_of (pairs_of t.arrays))) where
-  -- what moves pairs and adds none
+  -- a change that moves pairs and adds none
   pub kept_stays : (s : TableView K V H) → KeepsPairs (state_of kind t) (state_of kind s) → Stays eq (map_of t) (map_of s)
   kept_stays s keeps =
       stays eq laws kind t s distinct (distinct_permuted eq laws (pairs_of t.arrays) (pairs_of s.arrays) keeps.pairs distinct) keeps
 
-  -- the pairs move, one is added, and then its value is another one
+  -- the pairs move, one is added, and then its value changes
   pub added_lent : (between added s : TableView K V H) (k : K) (v w : V) → get eq (map_of t) k ≡ None
       → KeepsPairs (state_of kind t) (state_of kind between) → AddsPair (state_of kind between) (k, v) (state_of kind added)
       → IsDistinct eq (keys_of (pairs_of added.arrays)) → ChangesValue (state_of kind added) (k, v) w (state_of kind s)
@@ -127,7 +127,7 @@ module _ {K V H : Type 0} (eq : K → K → Bool) (laws : IsEquivalence eq) (kin
             (puts.others ∙ ap (λ (z : MapState K V H). record z { pairs = zs }) keeps.others);
       })
 
--- a pair was put into the bucket that was found, and its value written then
+-- a pair was put into the bucket that was found, and then its value was written
 pub added_lent_grows : {K V H : Type 0} (hash_of : H → K → ℕ) (key : K) (t between added : TableView K V H)
     → ArePlaced (hash_of added.hasher) added.arrays → (0 < length added.arrays.linked → 0 < length added.arrays.current)
     → (keeps : ℕ → Bool) (v w : V) (side : Side) (index byte hash : ℕ) (at : Place) → hash ≡ hash_of t.hasher key

@@ -1,4 +1,4 @@
--- How many pairs the buckets have, and which of all pairs are those of one bucket.
+-- The number of pairs in the buckets, and which of all pairs are those of one bucket.
 use Rattle.std.proofs.Common.{ℕ, zero, suc, List, [], ◌∷◌, ◌++◌, ◌≡◌, ◌∙◌, ap, drop, length, map, refl, slice_set, sym, take}
 use Rattle.std.specs.List.{sum}
 use Rattle.std.specs.Prelude.{slice_index_or}
@@ -38,7 +38,7 @@ module _ {K V : Type 0} where
   pub buckets_len : {H : Type 0} (t : TableView K V H) → length (map_of t).bucket_lens ≡ length (row_of t.arrays)
   buckets_len t = length-map (row_of t.arrays) len_of
 
-  -- as many pairs as the buckets before a bucket have stand before its own
+  -- the pairs of the buckets before a bucket come before its own
   pairs_at : (buckets : List (BucketView K V)) (index : ℕ)
       → take (slice_index_or (lens_of buckets) index 0) (drop (sum (take index (lens_of buckets))) (pairs_in_all buckets))
       ≡ pairs_in (bucket_at buckets index)

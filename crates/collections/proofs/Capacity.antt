@@ -1,4 +1,4 @@
--- How many slots some pairs take, and what making room and giving slots back leave of a map.
+-- How many slots some pairs need, and what making room and freeing slots leave of a map.
 use Rattle.std.proofs.Common.{Bool, Err, IsTrue, List, Ok, OnOk, Result, [], ap, arith, false, inl, inr, length, max, min, pow-add, refl}
 use Rattle.std.proofs.Common.{subst, sym}
 use Rattle.std.proofs.Common.{true, ℕ, ◌*◌, ◌+◌, ◌-◌, ◌/◌, ◌<◌, ◌^◌, ◌∙◌, ◌≡◌, ◌≤◌, ◌↔◌, ◌⊎◌}
@@ -34,7 +34,7 @@ some_moving len tested means is none =
     let some = means.0 is in
     absurd (omega (arith, some, none))
 
--- the pairs that an array holds are no more than its slots may take
+-- an array holds no more pairs than its slots may take
 pub most : (slots pairs : ℕ) → (IsTooFull slots pairs → ⊥) → pairs ≤ (slots / 16) * 13
 most slots pairs enough = elim (cases_lt ((slots / 16) * 13) pairs) [
   | inl full ↦ absurd (enough full)
@@ -74,7 +74,7 @@ slots_are_one pairs a b is also =
     let above = also.least a is.holds in
     omega (arith, below, above)
 
--- no pair takes no slots, but an array has 64
+-- no pairs need no slots, but an array has 64
 none_held : AreTooMany 0 → ⊥
 none_held many = many 64 (record {
   power = record { power = (6, refl); at_least = omega arith; at_most = omega arith };
@@ -102,7 +102,7 @@ minimum_beyond pairs some many = record {
   beyond = λ many. refl;
 }
 
--- an array for a power of two has so many slots
+-- an array for a power of two has that many slots
 whole : (slots : ℕ) → IsPowerOfTwo slots → 64 ≤ slots → 32 * (slots / 32) ≡ slots
 whole slots (k, is) large =
     let order : 5 ≤ k = exponent_le 5 k (omega (arith, is, large)) in
@@ -141,26 +141,26 @@ slots_of_array len long = elim (cases_lt 0 len) [
   | inr none ↦ inl (omega (arith, none))
 ]
 
--- an array for a power of two that was moved to has so many slots
+-- an array for a power of two to which the pairs were moved has that many slots
 pub settled_slots : {K V : Type 0} (slots : ℕ) (arrays : ArraysView K V) → IsPowerIn 64 (2 ^ 62) slots → IsSettledAt slots arrays
     → (32 * length arrays.current ≡ slots) × (32 * length arrays.linked ≡ 0)
 settled_slots slots arrays is settled =
     let alone = settled.alone in
     (slots_of_len slots (length arrays.current) is settled.len, omega (arith, alone))
 
--- an array that has its length, or that for a capacity which isn't less, has no fewer slots
+-- an array that keeps its length, or has that for a capacity that isn't less, has no fewer slots
 pub none_fewer : (slots was len : ℕ) → IsPowerIn 64 (2 ^ 62) slots → (len ≡ was) ⊎ IsLengthFor slots len → 32 * was ≤ slots
     → 32 * was ≤ 32 * len
 none_fewer slots was len is (inl same) least = omega (arith, same)
 none_fewer slots was len is (inr for) least = omega (arith, slots_of_len slots len is for, least)
 
--- the count of pairs, cut at what a number of 64 bits holds, is that of pairs that are not too many
+-- the number of pairs, limited to 64 bits, is the true number if the pairs are not too many
 counted : (n more len pairs : ℕ) → len ≡ min n (2 ^ 64 - 1) → pairs ≡ len + more
     → (pairs ≤ (2 ^ 62 / 16) * 13) ⊎ (n + more ≤ (2 ^ 62 / 16) * 13) → pairs ≡ n + more
 counted n more len pairs cut is (inl few) = omega (arith, cut, is, few)
 counted n more len pairs cut is (inr few) = omega (arith, cut, is, few)
 
--- pairs that have room in an array, or in none, are not too many
+-- pairs for which there is room in an array, or that are none, are not too many
 not_many : (slots pairs : ℕ) → (slots ≡ 0) ⊎ IsPowerIn 64 (2 ^ 62) slots → (IsTooFull slots pairs → ⊥) → AreTooMany pairs → ⊥
 not_many slots pairs (inl none) enough many =
     let few = most slots pairs enough in
@@ -177,7 +177,7 @@ few_in slots pairs (inr is) enough =
 
 module _ {K V H E : Type 0} (eq : K → K → Bool) (more : ℕ) (old : MapView K V H) (unique : IsUnique eq old)
     (shape : (old.slots ≡ 0) ⊎ IsPowerIn 64 (2 ^ 62) old.slots) (len : ℕ) (len_is : len ≡ min (map_len old) (2 ^ 64 - 1)) where
-  -- nothing changes where no room is made
+  -- nothing changes if no room is made
   stays_refused : (error : E) → (HasRoomFor more old → ⊥) → MakesRoom eq more old (Err error) old
   stays_refused error none = record {
     stays = stays_same eq old unique;
@@ -195,7 +195,7 @@ module _ {K V H E : Type 0} (eq : K → K → Bool) (more : ℕ) (old : MapView 
       much (omega (arith, few, len_is)))
 
   module _ (pairs : ℕ) (pairs_are : pairs ≡ len + more) where
-    -- there is no number of slots for so many
+    -- there is no number of slots for that many
     pub beyond : (error : E) → AreTooMany pairs → MakesRoom eq more old (Err error) old
     beyond error many = stays_refused error (λ has.
         let few = few_in old.slots (map_len old + more) shape has.enough in
@@ -217,7 +217,7 @@ module _ {K V H E : Type 0} (eq : K → K → Bool) (more : ℕ) (old : MapView 
           too_many = λ many. absurd (not_many old.slots (map_len old + more) shape room many);
         }
 
-    -- all pairs move to an array for so many
+    -- all pairs move to an array for that many
     pub makes : (answer : Result (Unit {0}) E) (new : MapView K V H) → Stays eq old new → OnOk answer (TakesSlots pairs old new)
         → old.slots ≤ new.slots → (AreTooMany pairs → IsErr answer × (new ≡ old))
         → ((IsTooFull old.slots pairs → ⊥) → old.old_slots ≡ 0 → ⊥) → MakesRoom eq more old answer new
@@ -277,7 +277,7 @@ module _ {K V H : Type 0} where
   no_buckets t none alone =
       rw (nil_from_length t.arrays.current (omega (arith, none)), nil_from_length t.arrays.linked (omega (arith, alone))) refl
 
-  -- and then all slots go
+  -- and then all slots are dropped
   pub slots_gone : (t s u : TableView K V H) → s ≡ record t { arrays = with_minimum t.arrays 0 } → u.hasher ≡ s.hasher
       → u.arrays ≡ record s.arrays { current = []; linked = []; tickets = first_tickets 0 }
       → map_of u ≡ record (map_of t) { entries = []; minimum = 0; slots = 0; old_slots = 0; bucket_lens = [] }
@@ -285,7 +285,7 @@ module _ {K V H : Type 0} where
 
 module _ {K V H : Type 0} (eq : K → K → Bool) (old : MapView K V H) (unique : IsUnique eq old) (len : ℕ)
     (len_is : len ≡ min (map_len old) (2 ^ 64 - 1)) where
-  -- a map without a pair has no slots left
+  -- a map without pairs has no slots left
   pub shrinks_none : {E : Type 0} (new : MapView K V H) → (old.slots ≡ 0 → old.old_slots ≡ 0 → old.bucket_lens ≡ []) → len ≡ 0
       → new ≡ record old { entries = []; minimum = 0; slots = 0; old_slots = 0; bucket_lens = [] } → ShrinksToFit {E = E} eq old (Ok tt) new
   shrinks_none new buckets none is =
@@ -320,7 +320,7 @@ module _ {K V H : Type 0} (eq : K → K → Bool) (old : MapView K V H) (unique 
         let same : map_len old ≡ len = omega (arith, few, len_is) in
         subst (λ (n : ℕ). IsSlotsFor n old.slots) same for
 
-    -- no array is for so many
+    -- no array can hold that many
     pub shrinks_refused : {E : Type 0} (error : E) → AreTooMany len → ShrinksToFit eq old (Err error) (record old { minimum = 0 })
     shrinks_refused error many = record {
       stays = stays_same eq (record old { minimum = 0 }) unique;
@@ -342,7 +342,7 @@ module _ {K V H : Type 0} (eq : K → K → Bool) (old : MapView K V H) (unique 
           }
       fits (Err refused) new kept none = tt
 
-      -- all pairs move to as few slots as they take
+      -- all pairs move to as few slots as they need
       pub shrinks_moved : (answer : Result (Unit {0}) E) (new : MapView K V H) → Stays eq (record old { minimum = 0 }) new
           → OnOk answer ((new.slots ≡ slots) × (new.old_slots ≡ 0)) → (slots ≡ old.slots → old.old_slots ≡ 0 → ⊥)
           → ShrinksToFit eq old answer new

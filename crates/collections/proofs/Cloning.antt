@@ -1,4 +1,4 @@
--- A map that was empty, and into which clones of the pairs of another are put one after the other.
+-- A map that was empty, and into which clones of the pairs of another are inserted one after the other.
 use Rattle.std.proofs.Common.{ℕ, ◌≡◌, ◌∙◌, Bool, true, false, Option, Some, None, List, [], ◌∷◌, ◌++◌, ap, sym, subst, refl}
 use Rattle.std.specs.Prelude.{◌^◌, min}
 use Rattle.std.specs.Cmp.{IsEquivalence}
@@ -30,7 +30,7 @@ has_pair : {A : Type 0} (front rest : List A) (x : A) → front ++ x ∷ rest �
 has_pair [] rest x e = absurd cc
 has_pair (y ∷ front) rest x e = absurd cc
 
--- two keys are apart where equal ones are
+-- two keys are different if equal keys are
 apart_too : {K : Type 0} (eq : K → K → Bool) → IsEquivalence eq → (own key other clone : K) → eq own key ≡ true
     → eq other clone ≡ true → eq own other ≡ false → eq key clone ≡ false
 apart_too eq laws own key other clone same same_other apart =
@@ -45,7 +45,7 @@ module _ {K V : Type 0} (eq : K → K → Bool) (IsKey : K → K → Type 0) (Is
   apart_all own key (e ∷ es) (f ∷ fs) same clones apart =
       (apart_too eq laws own key e.0 f.0 same clones.0.0.1 apart.0, apart_all own key es fs same clones.1 apart.1)
 
-  -- so no two clones are equal where no two keys are
+  -- so no two clones are equal if no two keys are
   distinct_clones : (es fs : List (K × V)) → AllZip (IsClonedPair eq IsKey IsValue) es fs → IsDistinct eq (keys_of es)
       → IsDistinct eq (keys_of fs)
   distinct_clones [] [] clones distinct = distinct
@@ -56,7 +56,7 @@ module _ {K V : Type 0} (eq : K → K → Bool) (IsKey : K → K → Type 0) (Is
       (apart_all e.0 f.0 es fs clones.0.0.1 clones.1 (IsDistinct-head eq e.0 (keys_of es) distinct))
       (distinct_clones es fs clones.1 (IsDistinct-tail eq e.0 (keys_of es) distinct))
 
--- where keys are absent, pairs that are put are added
+-- if the keys are absent, the pairs that are put are added
 puts_on : {K V H : Type 0} (eq : K → K → Bool) (pairs : List (K × V)) (first last : MapView K V H)
     → FoldsTo (λ before pair after. Puts eq before pair.0 pair.1 after) first pairs last
     → FoldsTo (PutsOn eq) (Some first) pairs (Some last)
@@ -69,7 +69,7 @@ puts_on {K = K} {V = V} eq (pair ∷ pairs) first last went = (
 )
 
 module _ {K V H : Type 0} (eq : K → K → Bool) (IsKey : K → K → Type 0) (IsValue : V → V → Type 0) where
-  -- of the pairs of a map some are left, and clones of the others were put in turn into another
+  -- some pairs of a map are left, and clones of the others were put into another map in turn
   pub record IsCloning (own first now : MapView K V H) (left : List (K × V)) : Type 0 where
     pub seen : List (K × V)
     pub pairs : List (K × V)
@@ -82,7 +82,7 @@ module _ {K V H : Type 0} (eq : K → K → Bool) (IsKey : K → K → Type 0) (
       let unique : IsUnique eq first = subst (λ (es : List (K × V)). IsDistinct eq (keys_of es)) (sym empty) (none_equal eq) in
       record { seen = []; pairs = []; all = refl; clones = tt; puts = none_put eq first unique }
 
-  -- a map of which a pair is left isn't empty
+  -- a map with a pair left isn't empty
   pub some_left : (own first now : MapView K V H) (left rest : List (K × V)) (pair : K × V) → IsCloning own first now left
       → left ≡ pair ∷ rest → IsEmpty own → ⊥
   some_left own first now left rest pair so_far is empty =
@@ -99,7 +99,7 @@ module _ {K V H : Type 0} (eq : K → K → Bool) (IsKey : K → K → Type 0) (
     puts = one_more_put eq first mid new so_far.pairs clone so_far.puts put;
   }
 
-  -- where none is left, the other map has clones of all
+  -- if none is left, the other map has clones of all
   pub cloned : IsEquivalence eq → (IsHasher : H → H → Type 0) (own first now : MapView K V H) (left : List (K × V)) (hasher clone : H)
       → IsCloning own first now left → left ≡ [] → IsUnique eq own → IsEmpty first → hasher ≡ own.hasher → IsHasher hasher clone
       → first.hasher ≡ clone → first.minimum ≡ min own.minimum (2 ^ 63) → first.maximum ≡ 2 ^ 63
@@ -130,7 +130,7 @@ module _ {K V H : Type 0} (eq : K → K → Bool) (IsKey : K → K → Type 0) (
         maximum = stays.kept.maximum ∙ maximum;
       }
 
-  -- in a table whose minimum is another
+  -- in a table with another minimum
   pub lowered : (IsHasher : H → H → Type 0) (own : MapView K V H) (t s : TableView K V H) (first left : ℕ)
       → IsClone eq IsKey IsValue IsHasher (record own { minimum = first }) (map_of t)
       → s ≡ record t { arrays = with_minimum t.arrays (min left t.arrays.maximum) } → left ≡ own.minimum

@@ -1,4 +1,4 @@
--- Many pairs or keys put in turn: one more of them.
+-- Many pairs or keys inserted in turn: one more of them.
 use Rattle.std.proofs.Common.{◌≡◌, Bool, Option, Some, None}
 use Rattle.std.proofs.Common.{List, [], ◌∷◌, ◌++◌, ap, refl, sym, subst, ◌∙◌}
 use Rattle.std.specs.Option.{MatchOption}
@@ -14,7 +14,7 @@ use Rattle.collections.specs.Loans.{Puts}
 use Rattle.collections.specs.Maps.{IsEmpty, IsUnique, MapView, get}
 use Rattle.collections.proofs.Staying.{adds_after, replaces_after, stays_after}
 
--- a map that was made empty
+-- a new, empty map
 pub new_is : {K V H : Type 0} (m : MapView K V H) → IsEmpty m → m.minimum ≡ 64 → m.maximum ≡ 2 ^ 63
     → (m.slots ≡ 0) × (m.old_slots ≡ 0) → m.bucket_lens ≡ [] → m ≡ empty_map m.hasher
 new_is m empty minimum maximum (slots, old_slots) buckets = λ i. record {
@@ -28,7 +28,7 @@ new_is m empty minimum maximum (slots, old_slots) buckets = λ i. record {
 }
 
 module _ {K V H : Type 0} (eq : K → K → Bool) where
-  -- a map that is as it was has its pairs
+  -- an unchanged map has its pairs
   pub stays_same : (m : MapView K V H) → IsUnique eq m → Stays eq m m
   stays_same m unique = record {
     entries = IsPermutation-refl m.entries;
@@ -60,7 +60,7 @@ module _ {K V H : Type 0} (eq : K → K → Bool) where
     pub put_keeps : Puts eq old key value new → Keeps eq old new
     put_keeps put = put_cases (get eq old key) (λ a. a.kept) (λ own before r. r.kept) put
 
-    -- so it is by an upsert
+    -- an upsert puts the value too
     pub upsert_puts : (earlier : Option V) → Upserts eq key value old (Ok earlier) new → Puts eq old key value new
     upsert_puts None added =
         subst (λ (o : Option V). MatchOption o (Adds eq old key value new)
@@ -71,7 +71,7 @@ module _ {K V H : Type 0} (eq : K → K → Bool) where
         (λ before. (own : K) × Replaces eq old (eq key) (own, before) value new))
         (sym replaced.1.value) replaced
 
-  -- after a map moved its pairs
+  -- the same after a map moved its pairs
   put_after : (old between new : MapView K V H) → Stays eq old between → (key : K) (value : V) → Puts eq between key value new
       → Puts eq old key value new
   put_after old between new stays key value put = from (get eq between key) (stays.gets key) put
@@ -110,7 +110,7 @@ module _ {K V H : Type 0} (eq : K → K → Bool) where
         kept = keeps_then old mid new puts.kept kept;
       }
 
-  -- and the map may move its pairs then
+  -- and the map may move its pairs afterwards
   pub put_then_stays : (old mid new : MapView K V H) (pairs : List (K × V)) → PutsAll eq old pairs mid → Stays eq mid new
       → PutsAll eq old pairs new
   put_then_stays old mid new pairs puts stays = record {
@@ -121,7 +121,7 @@ module _ {K V H : Type 0} (eq : K → K → Bool) where
     kept = keeps_then old mid new puts.kept stays.kept;
   }
 
-  -- a map moved its pairs, and then some were put
+  -- a map moved its pairs, and then some were inserted
   pub stays_then_put : (old mid new : MapView K V H) (pairs : List (K × V)) → Stays eq old mid → PutsAll eq mid pairs new
       → PutsAll eq old pairs new
   stays_then_put old mid new pairs stays puts =
@@ -140,7 +140,7 @@ module _ {K V H : Type 0} (eq : K → K → Bool) where
       from_before [] between last is = (old, refl, stays_after eq old mid new stays (subst (λ m. Stays eq m new) (sym is) last))
       from_before (p ∷ ps) between last went = (between, (went.0, put_after old mid went.0 stays p.0 p.1 went.1, went.2), last)
 
-  -- a map of which no more is said than that it was made empty, and that room was made in it
+  -- a map that was made empty, and in which room was made; nothing else is known of it
   pub put_into_new : (first ready made : MapView K V H) (pairs : List (K × V)) → IsEmpty first → first.minimum ≡ 64 → first.maximum ≡ 2 ^ 63
       → (first.slots ≡ 0) × (first.old_slots ≡ 0) → first.bucket_lens ≡ [] → Stays eq first ready → PutsAll eq ready pairs made
       → PutsAll eq (empty_map made.hasher) pairs made

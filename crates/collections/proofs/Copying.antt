@@ -15,20 +15,20 @@ use Rattle.collections.specs.Copies.{BecomesOrGoes, IsCopy}
 use Rattle.collections.specs.Maps.{IsEmpty, IsUnique, MapView, get}
 use Rattle.collections.proofs.Lookups.{absent_from_lookup, distinct_permuted, lookup_absent, lookup_permuted}
 
--- what holds of each of two lists holds of each of the second
+-- what holds for each of two lists together holds for each of the second
 all_behind : {X : Type 0} (P : X → Type 0) (xs ys : List X) → All P (xs ++ ys) → All P ys
 all_behind P [] ys all = all
 all_behind P (x ∷ xs) ys all = all_behind P xs ys (λ i d below. all (suc i) d (omega arith))
 
 module _ {K V H : Type 0} (eq : K → K → Bool) where
-  -- a pair is in, if its key was absent
+  -- a pair is inserted, if its key was absent
   abbrev PutsPair : K × V → MapView K V H → MapView K V H → Type 0
   PutsPair pair old new = get eq old pair.0 ≡ None → Adds eq old pair.0 pair.1 new
 
   abbrev pub PutsOn : Option (MapView K V H) → K × V → Option (MapView K V H) → Type 0
   PutsOn before pair after = BecomesOrGoes (PutsPair pair) before after
 
-  -- no map comes where there is none
+  -- no map follows from `None`
   none_stays : (pairs : List (K × V)) (new : MapView K V H) → FoldsTo PutsOn None pairs (Some new) → ⊥
   none_stays [] new is = absurd cc
   none_stays (pair ∷ pairs) new went = from went.0 (none_stays pairs new) went.1 went.2
@@ -42,7 +42,7 @@ module _ {K V H : Type 0} (eq : K → K → Bool) where
   settings m = (m.hasher, m.minimum, m.maximum)
 
   module _ (laws : IsEquivalence eq) where
-    -- a map has no key that is apart from those of its pairs
+    -- a map has no key that differs from those of its pairs
     absent_yet : (pair : K × V) (pairs done : List (K × V)) (m : MapView K V H) → IsDistinct eq (keys_of (pair ∷ (pairs ++ done)))
         → IsPermutation done m.entries → get eq m pair.0 ≡ None
     absent_yet pair pairs done m distinct moved =
@@ -51,7 +51,7 @@ module _ {K V H : Type 0} (eq : K → K → Bool) where
         let Other : K × V → Type 0 = λ o. eq pair.0 o.0 ≡ false in
         lookup_absent eq laws pair.0 m.entries (All-permutation Other done m.entries moved (all_behind Other pairs done none))
 
-    -- pairs that are put stand beside those that were there
+    -- inserted pairs come in addition to those that were present
     filled : (pairs done : List (K × V)) (old new : MapView K V H) → IsDistinct eq (keys_of (pairs ++ done))
         → IsPermutation done old.entries → FoldsTo PutsOn (Some old) pairs (Some new)
         → IsPermutation (pairs ++ done) new.entries × (settings new ≡ settings old)
@@ -78,7 +78,7 @@ module _ {K V H : Type 0} (eq : K → K → Bool) where
               all.1 ∙ (λ i. (added.kept.hasher i, added.kept.minimum i, added.kept.maximum i)),
             )
 
-    -- so they are all that a map has that was empty
+    -- so they are all pairs of a map that was empty
     pub stays_filled : (pairs : List (K × V)) (old new : MapView K V H) → IsDistinct eq (keys_of pairs) → IsEmpty old
         → FoldsTo PutsOn (Some old) pairs (Some new) → Stays eq (record old { entries = pairs }) new
     stays_filled pairs old new distinct empty went =
@@ -96,7 +96,7 @@ module _ {K V H : Type 0} (eq : K → K → Bool) where
           };
         }
 
-    -- so a map is a copy that was empty, and has the hasher and the capacities
+    -- so a map that was empty is a copy, with the hasher and the capacities
     pub copied : (own old new : MapView K V H) → IsUnique eq own → IsEmpty old → old.hasher ≡ own.hasher
         → old.minimum ≡ min own.minimum (2 ^ 63) → old.maximum ≡ 2 ^ 63 → FoldsTo PutsOn (Some old) own.entries (Some new)
         → IsCopy eq own new

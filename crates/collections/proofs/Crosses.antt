@@ -1,4 +1,4 @@
--- Which collections may cross threads: as their keys, values and hasher may.
+-- Collections may cross threads as far as their keys, values and hasher may.
 use denote.RattleType.{RattleType}
 use denote.Param.Send.{IsSend, IsSync, sendable}
 use Rattle.std.specs.declared.cmp.Eq as equivalence

@@ -37,7 +37,7 @@ use Rattle.collections.specs.Crowding.{HasAtHome, HasInOld, KeepsHome, LacksBuck
 use Rattle.collections.specs.Maps.{map_of}
 
 module _ {K V : Type 0} where
-  -- each slot is live, free or marked
+  -- each slot is live, free or a tombstone
   parted : (slots : List (Slot K V)) → length (live_pairs slots) + free_len slots + marked_len slots ≡ length slots
   parted [] = refl
   parted (x ∷ slots) =
@@ -52,7 +52,7 @@ module _ {K V : Type 0} where
       one (live pair byte) = refl
       one (marked pair byte) = refl
 
-  -- a bucket without a mark that has no free slot has 32 pairs
+  -- a bucket without tombstones that has no free slot has 32 pairs
   held : (kind : ℕ) (bucket : BucketView K V) → kind ≢ INDEX → IsBucketOf kind bucket → first_place is_free bucket ≡ None
       → 32 ≤ length (pairs_in bucket)
   held kind bucket other laws none = omega (
@@ -65,7 +65,7 @@ module _ {K V : Type 0} where
   )
 
   module _ (hash : K → ℕ) where
-    -- pairs that stand in their home have it
+    -- if all pairs of a list are in their home, as many have that home
     homed : (len index : ℕ) (entries : List ((K × V) × ℕ)) → All (IsEntryHome hash len index) entries
         → homed_len hash len index (map (λ (e : (K × V) × ℕ). e.0) entries) ≡ length entries
     homed len index [] all = refl
@@ -77,7 +77,7 @@ module _ {K V : Type 0} where
         omega (arith, first, rest)
 
     module _ (arrays : ArraysView K V) (side : Side) (index : ℕ) (placed : ArePlaced hash arrays) where
-      -- the pairs of a bucket are some of all pairs
+      -- the pairs of a bucket are among all pairs
       shared : index < length (buckets_on arrays side)
           → length (pairs_in (bucket_on arrays side index)) ≤ homed_len hash (length (buckets_on arrays side)) index (pairs_of arrays)
       shared within =
@@ -92,7 +92,7 @@ module _ {K V : Type 0} where
           let here = homed len index entries (homes_on hash arrays side index placed within) in
           omega (arith, all, parts, here, length-entries_in (bucket_on arrays side index))
 
-      -- a home that has so many pairs is the home of so many
+      -- a bucket with that many pairs is the home of that many
       pub at_home : (count : ℕ) (key : K) → IsHome (length (buckets_on arrays side)) (hash key) index
           → count ≤ length (pairs_in (bucket_on arrays side index))
           → HasAtHome count hash key (32 * length (buckets_on arrays side)) (pairs_of arrays)
@@ -105,7 +105,7 @@ module _ {K V : Type 0} where
                 (rw (home_of-interval len index (hash key) home.own) (omega (arith, many, most))),
           )
 
--- arrays that were made ready have as many slots as they had, if they had any
+-- prepared arrays have as many slots as they had, if they had any
 pub ready_len : {K V : Type 0} (old : ArraysView K V) (index : ℕ) (ready : ArraysView K V) → MakesReady old index ready
     → 0 < length old.current → length ready.current ≡ length old.current
 ready_len {K} {V} old index ready makes stands = elim (cases_lt 0 (length old.linked)) [
@@ -123,7 +123,7 @@ found_len rule kind hash old side index new readies stands =
 module _ {K V H : Type 0} (kind : ℕ) (hash_of : H → K → ℕ) (key : K) (n : ℕ) (old new : TableView K V H) (own : n ≡ hash_of new.hasher key)
     (placed : ArePlaced (hash_of new.hasher) new.arrays) (current : 0 < length new.arrays.current → KeepsHome kind n new.arrays.current)
     (linked : 0 < length new.arrays.linked → KeepsHome kind n new.arrays.linked) where
-  -- so many pairs in a home were as many before
+  -- a home with that many pairs had that many before
   pub before_on : (count : ℕ) (side : Side) (index len : ℕ) → KeepsPairs (state_of kind old) (state_of kind new)
       → length (buckets_on new.arrays side) ≡ len → IsHome (length (buckets_on new.arrays side)) n index
       → count ≤ length (pairs_in (bucket_on new.arrays side index))
@@ -137,7 +137,7 @@ module _ {K V H : Type 0} (kind : ℕ) (hash_of : H → K → ℕ) (key : K) (n 
             (pairs_of old.arrays) (pairs_of new.arrays) kept.pairs) there.1,
       )
 
-  -- so many pairs in the old home, as the map has it
+  -- that many pairs in the old home, as the map counts them
   in_old : (count i : ℕ) → IsHome (length old.arrays.linked) n i → KeepsPairs (state_of kind old) (state_of kind new)
       → count ≤ length (pairs_in (bucket_at old.arrays.linked i)) → HasInOld count (hash_of old.hasher) key (map_of old)
   in_old count i home kept many =
@@ -175,7 +175,7 @@ module _ {K V H : Type 0} (kind : ℕ) (hash_of : H → K → ℕ) (key : K) (n 
         (held kind (bucket_on new.arrays side index) other (laws_on side index found.home) none))
   ]
 
-  -- where an old array isn't longer, a source of a current home is the old home
+  -- if an old array isn't longer, a source of a current home is the old home
   old_home : (index i : ℕ) → IsHome (length new.arrays.current) n index → i < length new.arrays.linked
       → Meets (length new.arrays.linked) i (length new.arrays.current) index → length new.arrays.linked ≤ length new.arrays.current
       → IsHome (length new.arrays.linked) n i
@@ -190,7 +190,7 @@ module _ {K V H : Type 0} (kind : ℕ) (hash_of : H → K → ℕ) (key : K) (n 
       let there : kept.index ≡ one.0 = (one.2 kept.index kept.home.within).0 (homes_meet from to kept.index index n kept.home home) in
       subst (IsHome from n) (there ∙ sym here) kept.home
 
-  -- where no bucket was found, the old home had more than 32 pairs if arrays stood and grew
+  -- if no bucket was found, the old home had more than 32 pairs if there were arrays and they grew
   pub old_full : IsRefused kind n old new → ((length old.arrays.current ≡ 0) ⊎ (length old.arrays.current < length old.arrays.linked))
       ⊎ ((i : ℕ) × IsHome (length new.arrays.linked) n i × (33 ≤ length (pairs_in (bucket_at old.arrays.linked i)))
       × (length new.arrays.linked ≡ length old.arrays.linked))
@@ -235,7 +235,7 @@ module _ {K V H : Type 0} (kind : ℕ) (hash_of : H → K → ℕ) (key : K) (n 
   unfolding LacksRoom
   none_found_room refused = inl (none_found refused)
 
--- a table in which a bucket was looked for, and that is as it was then
+-- a table in which a bucket was searched for, and that is as it was then
 module _ {K V H : Type 0} (kind : ℕ) (hash_of : H → K → ℕ) (key : K) (old between new : TableView K V H)
     (kept : KeepsPairs (state_of kind old) (state_of kind new)) (is : new ≡ between) where
   pub found_some : {rule : ResizeRule} (side : Side) (index : ℕ) → FindsBucket rule kind (hash_of old.hasher key) old side index between
@@ -260,7 +260,7 @@ module _ {K V H : Type 0} (hash_of : H → K → ℕ) (key : K) (old new : Table
   put_by k v (Err e) between kept refused is = none_found 67 hash_of key (hash_of new.hasher key) old new refl placed current linked
       (found_none 67 hash_of key old between new kept is refused)
 
-  -- a pair that a cache didn't take for want of memory
+  -- a pair that wasn't put into a cache because allocation failed
   pub put_lacks : (eq : K → K → Bool) (result : Result (Option (K × V)) (NotInserted K V)) (k : K) (v : V)
       → Puts eq key value (state_of 67 old) result (state_of 67 new)
       → FindsThen Sampled 67 (hash_of old.hasher key) old
@@ -295,7 +295,7 @@ module _ {K V H : Type 0} (hash_of : H → K → ℕ) (key : K) (old new : Table
     inserted_by A k v (Ok at) between kept found done = refused_by (Ok at) between kept found done.1 done.0
     inserted_by A k v (Err e) between kept found done = refused_by (Err e) between kept found done tt
 
-    -- a pair that came back from an insertion
+    -- a pair that an insertion returned
     pub insertion_lacks : {A : Type 0} (eq : K → K → Bool) (result : Result A (NotInserted K V)) (k : K) (v : V)
         → Inserts eq key value (state_of 83 old) result (state_of 83 new)
         → FindsThen Counted 83 (hash_of old.hasher key) old
@@ -313,7 +313,7 @@ module _ {K V H : Type 0} (hash_of : H → K → ℕ) (key : K) (old new : Table
     upserted_by eq back (Ok at) between kept found done = refused_by (Ok at) between kept found done.1 done.0
     upserted_by eq back (Err e) between kept found done = refused_by (Err e) between kept found done tt
 
-    -- and from one that would have written its value beside an equal key
+    -- and one from an insertion that would have replaced the value of an equal key
     pub upsertion_lacks : (eq : K → K → Bool) (back : K × V) → Upserts eq key value (state_of 83 old) (Err back) (state_of 83 new)
         → FindsThen Counted 83 (hash_of old.hasher key) old
         (λ answer between. UpsertsAt eq 83 keeps key value (hash_of old.hasher key % 256) between (Err back) answer new)

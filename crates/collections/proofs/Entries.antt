@@ -9,7 +9,7 @@ use Rattle.collections.specs.Slots.{KeepsSlots}
 use Rattle.collections.specs.Maps.{MapView, get, get_by}
 use Rattle.collections.proofs.Lookups.{IsForm, form_of_key}
 
--- a hash that is known of keys stays so, where the hasher stays
+-- a hash that is known of keys stays the same if the hasher stays
 pub hash_stays : {K V H : Type 0} (eq : K → K → Bool) (hash_of : H → K → ℕ) (key : K) (hash : ℕ) (old new : MapView K V H)
     → Keeps eq old new → hash ≡ hash_of old.hasher key → hash ≡ hash_of new.hasher key
 hash_stays eq hash_of key hash old new keeps is = is ∙ ap (λ h. hash_of h key) (sym keeps.hasher)
@@ -18,12 +18,12 @@ pub hashes_stay : {K V H : Type 0} (eq : K → K → Bool) (hash_of : H → K �
     → Keeps eq old new → HaveHash wants (hash_of old.hasher) hash → HaveHash wants (hash_of new.hasher) hash
 hashes_stay eq hash_of wants hash old new keeps have = λ key wanted. ap (λ h. hash_of h key) keeps.hasher ∙ have key wanted
 
--- what is lent is what was there
+-- what is lent is what was present
 pub same_as_lent : {V : Type 0} (P : V → Type 0) (held : Option V) (value : V) → Some value ≡ held
     → MatchOption held (P value) (λ v. value ≡ v)
 same_as_lent P held value is = subst (λ (o : Option _). MatchOption o (P value) (λ v. value ≡ v)) is refl
 
--- a value that is lent where it stands is put, whatever puts it where no key is wanted
+-- a value that is lent in place is put, whatever a put does if no key matches
 pub puts_held : {K V H : Type 0} (eq : K → K → Bool) (map new : MapView K V H) (wants : K → Bool) (before value : V) (P : Type 0)
     → get_by wants map ≡ Some before → Holds eq wants map before value new
     → MatchOption (get_by wants map) P (λ held. (own : K) × Replaces eq map wants (own, held) value new)
@@ -33,7 +33,7 @@ puts_held {K} {V} eq map new wants before value P is holds =
 module _ {K V H : Type 0} (eq : K → K → Bool) (map new : MapView K V H) (wants : K → Bool) (loan : Option (MutBor V)) (lent : MutBor V)
     (value : V) (is : loan ≡ Some lent) (holds : IfSome loan
     (λ l. (own : K) × Replaces eq map wants (own, l.now) value new × KeepsSlots map new)) where
-  -- a loan that is there replaces
+  -- a loan of a present value replaces it
   pub replaces_there : (own : K) × Replaces eq map wants (own, lent.now) value new
   replaces_there = let both = rw is at holds in (both.0, both.1)
 
@@ -41,14 +41,14 @@ module _ {K V H : Type 0} (eq : K → K → Bool) (map new : MapView K V H) (wan
   pub slots_there : KeepsSlots map new
   slots_there = let both = rw is at holds in both.2
 
-  -- and so the value is put, whatever puts it where no key is wanted
+  -- and so the value is put, whatever a put does if no key matches
   pub puts_there : (P : Type 0)
       → MatchOption (get_by wants map) P (λ before. (own : K) × Replaces eq map wants (own, before) value new)
   puts_there P =
       subst (λ (held : Option V). MatchOption held P
       (λ before. (own : K) × Replaces eq map wants (own, before) value new)) (sym replaces_there.1.value) replaces_there
 
-  -- and the map has the key still
+  -- and the map still contains the key
   pub still_there : IsEquivalence eq → IsForm eq wants → IsSome (get_by wants new)
   still_there laws alike =
       let own = replaces_there.0 in

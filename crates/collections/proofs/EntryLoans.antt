@@ -1,4 +1,4 @@
--- An entry whose value was lent for writing is the entry with another value, whatever shows its facts.
+-- An entry whose value was lent for writing is the entry with another value, however its facts are proved.
 use Rattle.std.proofs.Common.{◌≡◌}
 use Rattle.std.specs.Option.{IsSome}
 use Rattle.std.proofs.Math.Bool.{Bool-set}

@@ -9,7 +9,7 @@ use Rattle.collections.specs.Loans.{AddsWanted, PutsWanted}
 use Rattle.collections.specs.Maps.{MapView, get_by}
 use Rattle.collections.proofs.Entries.{puts_held}
 
--- what is lent is what was there
+-- what is lent is what was present
 pub same_as_held : {V : Type 0} (Q : Type 0) (held : Option V) (value : V) → Some value ≡ held → MatchOption held Q (λ v. value ≡ v)
 same_as_held {V} Q held value is = subst (λ (o : Option V). MatchOption o Q (λ v. value ≡ v)) is refl
 
@@ -22,7 +22,7 @@ module _ {K V : Type 0} (P : V → Type 0) (value : V) (made : P value) (outcome
       from (Ok lent) is = subst P (sym is) made
       from (Err back) is = tt
 
-  -- and so is what comes back beside the key
+  -- and so is what is returned next to the key
   pub made_back : (key : K) → IfErr outcome (λ back. back.value ≡ (key, value))
       → IfErr outcome (λ back. (back.value.0 ≡ key) × P back.value.1)
   made_back key is = from outcome is
@@ -32,7 +32,7 @@ module _ {K V : Type 0} (P : V → Type 0) (value : V) (made : P value) (outcome
       from (Ok lent) is = tt
       from (Err back) is = (ap (λ p. p.0) is, subst P (sym (ap (λ p. p.1) is)) made)
 
--- where nothing was there, what is lent was made
+-- if nothing was present, what is lent was made
 pub lent_vacant : {E V : Type 0} (P : V → Type 0) (held : Option V) → held ≡ None → (r : Result (MutBor V) E)
     → IfOk r (λ lent. P lent.now) → IfOk r (λ lent. MatchOption held (P lent.now) (λ v. lent.now ≡ v))
 lent_vacant {E} {V} P held none (Ok lent) made =
@@ -40,37 +40,37 @@ lent_vacant {E} {V} P held none (Ok lent) made =
 lent_vacant P held none (Err back) made = tt
 
 module _ {K V : Type 0} (P : V → Type 0) (held : Option V) (none : held ≡ None) where
-  -- and what comes back was
+  -- and what is returned was
   pub back_vacant : (key : K) (r : Result (MutBor V) (AllocFailed (K × V))) → IfErr r (λ back. (back.value.0 ≡ key) × P back.value.1)
       → IfErr r (λ back. (back.value.0 ≡ key) × P back.value.1 × (held ≡ None))
   back_vacant key (Ok lent) back = tt
   back_vacant key (Err refused) back = (back.0, back.1, none)
 
--- where nothing was there, nothing was where an error came
+-- if nothing was present, nothing was present when an error was returned
 pub none_refused : {A E V : Type 0} (held : Option V) (none : held ≡ None) (r : Result A E) → OnErr r (held ≡ None)
 none_refused held none (Ok x) = tt
 none_refused held none (Err why) = none
 
 module _ {V : Type 0} (P : V → Type 0) (value : V) (made : P value) (held : Option V) (none : held ≡ None) where
-  -- where nothing was there, what is lent is what was made
+  -- if nothing was present, what is lent is what was made
   pub lent_new : (r : Result (MutBor V) (AllocFailed V)) → IfOk r (λ lent. lent.now ≡ value)
       → IfOk r (λ lent. MatchOption held (P lent.now) (λ v. lent.now ≡ v))
   lent_new (Ok lent) is =
       subst (λ (o : Option V). MatchOption o (P lent.now) (λ v. lent.now ≡ v)) (sym none) (subst P (sym is) made)
   lent_new (Err back) is = tt
 
-  -- and so is what comes back
+  -- and so is what is returned
   pub back_new : (r : Result (MutBor V) (AllocFailed V)) → IfErr r (λ back. back.value ≡ value)
       → IfErr r (λ back. P back.value × (held ≡ None))
   back_new (Ok lent) is = tt
   back_new (Err back) is = (subst P (sym is) made, none)
 
 module _ {K V H : Type 0} (eq : K → K → Bool) (old : MapView K V H) (wants : K → Bool) (value : V) (new : MapView K V H) where
-  -- a pair more, where none of the keys was there, puts the value
+  -- one more pair puts the value, if none of the keys was present
   pub puts_new : get_by wants old ≡ None → AddsWanted eq old wants value new → PutsWanted eq old wants value new
   puts_new none adds = record { cases = rw none adds; updates = adds.updates }
 
-  -- and so does another value beside the key that is there
+  -- and so does another value under the present key
   pub puts_over : (before : V) → get_by wants old ≡ Some before → Holds eq wants old before value new → PutsWanted eq old wants value new
   puts_over before is holds = record {
     cases = puts_held eq old new wants before value _ is holds;

@@ -1,4 +1,4 @@
--- Asking of each pair of a map is asking of each key.
+-- Testing each pair of a map is testing each key.
 use Rattle.std.proofs.Common.{ℕ, suc, ◌≡◌, ◌<◌, ◌&&◌, ◌∙◌, Bool, Some, List, [], ◌∷◌, length, slice_index_or, refl, sym, ap}
 use Rattle.std.proofs.Common.{arith}
 use Rattle.std.specs.Cmp.{IsEquivalence}
@@ -10,7 +10,7 @@ use Rattle.collections.specs.Equality.{agree_at, is_within}
 use Rattle.collections.specs.Maps.{IsUnique, MapView, get}
 use Rattle.collections.proofs.Lookups.{lookup_there}
 
--- two tests that say the same at each place
+-- two tests with the same result at each place
 same_all : {X : Type 0} (f g : X → Bool) (xs : List X)
     → ((k : ℕ) (d : X) → k < length xs → f (slice_index_or xs k d) ≡ g (slice_index_or xs k d))
     → list_all f xs ≡ list_all g xs
@@ -21,7 +21,7 @@ same_all f g (x ∷ xs) each =
     λ i. head i && tail i
 
 module _ {K V H : Type 0} (eq : K → K → Bool) (laws : IsEquivalence eq) (same : V → V → Bool) where
-  -- asking of each pair is asking of each key
+  -- testing each pair is testing each key
   pub asked_of_pairs : (m n : MapView K V H) → IsUnique eq m
       → list_all (λ pair. option_eq same (Some pair.1) (get eq n pair.0)) m.entries ≡ is_within eq same m n
   asked_of_pairs m n unique = same_all _ _ m.entries (λ k d below.

@@ -1,4 +1,4 @@
--- What the arrays are where a bucket was found for a writer: they were made ready, and may have grown then.
+-- The arrays after a bucket was found for a writer: they were prepared, and may have grown then.
 use Rattle.bucket_table.specs.declared.arrays.side.Side.{Side}
 use Rattle.bucket_table.specs.declared.arrays.side.Side.TheVariants.{Current, Old}
 use Rattle.bucket_table.specs.declared.hash_table.ResizeRule.{ResizeRule}
@@ -13,13 +13,13 @@ use Rattle.bucket_table.specs.Views.Sides.{buckets_on}
 use Rattle.bucket_table.proofs.CallerLemmas.{keeps_same, made_keeps}
 
 module _ {K V : Type 0} where
-  -- the arrays that were made ready, which are the old ones now where they grew
+  -- the prepared arrays, which are now the old ones if they grew
   pub record IsFound (old : ArraysView K V) (side : Side) (index : ℕ) (new : ArraysView K V) : Type 0 where
     pub ready : ArraysView K V
     pub makes : MakesReady old index ready
     pub grown : Grows side ready new
 
-  -- a bucket that is overfull is ready
+  -- an overfull bucket is prepared
   pub overfull_ready : (hash index : ℕ) (old new : ArraysView K V) → GrowsOverfull hash old new → MakesReady old index old
   overfull_ready hash index old new grows =
       let alone = grows.overfull.bucket.alone in record {

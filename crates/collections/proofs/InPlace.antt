@@ -148,7 +148,7 @@ module _ {K V : Type 0} (p : K × V) (w : V) where
 
 module _ {K V : Type 0} (eq : K → K → Bool) (laws : IsEquivalence eq) (wants : K → Bool) (alike : IsForm eq wants) (p : K × V) (w : V)
     (same : wants p.0 ≡ true) where
-  -- a key before it isn't wanted, where no two keys are equal
+  -- a key before it doesn't match, since no two keys are equal
   apart_from : (own : K) (front rest : List (K × V)) → AllByRecursion (λ k. eq own k ≡ false) (keys_of (front ++ p ∷ rest))
       → eq own p.0 ≡ false
   apart_from own [] rest apart = apart.0
@@ -176,7 +176,7 @@ module _ {K V : Type 0} (eq : K → K → Bool) (laws : IsEquivalence eq) (wants
   same_others t Current i new = (refl, refl)
   same_others t Old i new = (refl, refl)
 
-  -- so the map is the same but for the value
+  -- so the map is the same except for the value
   pub written_in_place : {H : Type 0} (t : TableView K V H) (side : Side) (i : ℕ) (at : Place) → i < length (buckets_on t.arrays side)
       → live_pair (slot_in (bucket_on t.arrays side i) at) ≡ Some p → IsDistinct eq (keys_of (pairs_of t.arrays))
       → map_of (with_value t side i at w) ≡ map_with_value wants (map_of t) w
@@ -198,7 +198,7 @@ module _ {K V : Type 0} (eq : K → K → Bool) (laws : IsEquivalence eq) (wants
         bucket_lens = buckets j;
       }
 
-  -- and another value stands beside the key
+  -- and another value is under the key
   pub holds_in_place : {H : Type 0} (kind : ℕ) (t : TableView K V H) (side : Side) (i : ℕ) (at : Place)
       → i < length (buckets_on t.arrays side)
       → live_pair (slot_in (bucket_on t.arrays side i) at) ≡ Some p → IsDistinct eq (keys_of (pairs_of t.arrays))

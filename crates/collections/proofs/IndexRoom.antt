@@ -34,7 +34,7 @@ module _ {K V : Type 0} where
   none_free (live pair byte ∷ slots) none = none_free slots (omega (arith, frees (live pair byte) slots, none))
   none_free (marked pair epoch ∷ slots) none = none_free slots (omega (arith, frees (marked pair epoch) slots, none))
 
-  -- in a row without a free slot and a mark each is live
+  -- in a row without a free slot and without tombstones each slot is live
   all_live : (slots : List (Slot K V)) → free_len slots ≡ 0 → is_full_with_marks slots ≡ false
       → length (live_pairs slots) ≡ length slots
   all_live [] none unmarked = refl
@@ -109,7 +109,7 @@ module _ {K V H : Type 0} (hash_of : H → K → ℕ) (key : K) (old new : Table
       inl (none_found 79 hash_of key (hash_of new.hasher key) old new refl placed current linked
       (found_none 79 hash_of key old between new holds done refused))
 
-  -- a pair that came back from an insertion for want of memory
+  -- a pair that an insertion returned because allocation failed
   pub index_lacks : {A : Type 0} (eq : K → K → Bool) (result : Result A (NotInserted K V)) (k : K) (v : V)
       → Inserts eq key value (state_of 79 old) result (state_of 79 new)
       → FindsThen Counted 79 (hash_of old.hasher key) old

@@ -10,7 +10,7 @@ use Rattle.bucket_slots.specs.Slots.{Slot, all_free, free, live, marked, marked_
 use Rattle.bucket_slots.proofs.CallerLemmas.{filter_map-chain, filter_map-flattened, filter_map-is, flat_map-take, mark_of, place_made}
 use Rattle.bucket_slots.proofs.CallerLemmas.{same_made, suffix_passes}
 
--- another element that gives the same
+-- replacing an element by one with the same result changes nothing
 flat_map-set : {A B : Type 0} (f : A → List B) (items : List A) (i : ℕ) (a d : A) → f a ≡ f (get_or items i d)
     → flat_map f (set items i a) ≡ flat_map f items
 flat_map-set f [] i a d same = refl
@@ -22,7 +22,7 @@ abbrev pub none_kept : ℕ → Bool
 none_kept epoch = false
 
 module _ {K V : Type 0} where
-  -- another slot that has the same mark, or none
+  -- replacing a slot by one with the same tombstone, or none
   row-set : (row : List (Slot K V)) (pos : ℕ) (x : Slot K V) → mark_of x ≡ mark_of (slot_at row pos)
       → marked_entries (set row pos x) ≡ marked_entries row
   row-set row pos x same =
@@ -40,7 +40,7 @@ module _ {K V : Type 0} where
   with_slot s zero pos x same = rows-set (s.own ∷ s.chain) zero pos x same
   with_slot s (suc i) pos x same = rows-set (s.own ∷ s.chain) (suc i) pos x same
 
-  -- a pair is put, and the blocks that are all free at the end go
+  -- a pair is put, and the blocks that are all free at the end are dropped
   put : (s : BucketView K V) (pair : K × V) (byte : ℕ) → marks_in (slots_with s pair byte) ≡ marks_in s
   put s pair byte =
       let at = place_for_next s in
@@ -59,7 +59,7 @@ module _ {K V : Type 0} where
       (λ i from below. no_mark (get_or s.chain i []) (suffix_passes all_free s.chain i [] from below))
       ∙ sym (filter_map-flattened marked_entry s.chain))
 
-  -- no tombstone is left where none is kept
+  -- no tombstone is left if none is kept
   row_unexpired : (row : List (Slot K V)) → marked_entries (map (slot_without_expired none_kept) row) ≡ []
   row_unexpired [] = refl
   row_unexpired (free ∷ row) = row_unexpired row

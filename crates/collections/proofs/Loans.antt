@@ -1,4 +1,4 @@
--- A value of a map was lent: what is written through the loan stands beside the key.
+-- A value of a map was lent: what is written through the loan is the value under the key.
 use Rattle.std.proofs.Common.{ℕ, Bool, true, ◌∷◌, Option, Some, None, ◌≡◌, sym}
 use Rattle.std.specs.Borrow.{MutBor}
 use Rattle.std.specs.Cmp.{IsEquivalence}
@@ -21,7 +21,7 @@ use Rattle.collections.proofs.Steps.{replaces, stays}
 
 module _ {K V H : Type 0} (eq : K → K → Bool) (laws : IsEquivalence eq) (kind : ℕ) (t : TableView K V H)
     (distinct : IsDistinct eq (keys_of (pairs_of t.arrays))) (wants : K → Bool) (alike : IsForm eq wants) where
-  -- another value beside a key leaves the keys distinct
+  -- another value under a key leaves the keys distinct
   pub distinct_changed : (s : TableView K V H) (p : K × V) (v : V) → ChangesValue (state_of kind t) p v (state_of kind s)
       → IsDistinct eq (keys_of (pairs_of s.arrays))
   distinct_changed s p v changed =
@@ -50,7 +50,7 @@ module _ {K V H : Type 0} (eq : K → K → Bool) (laws : IsEquivalence eq) (kin
   lent_value (Some lent) found absent =
       sym (form_there eq laws wants alike (pairs_of t.arrays) (found.0, lent.now) distinct found.1.0 found.1.1)
 
-  -- where nothing is lent
+  -- if nothing is lent
   pub lent_none : (hash : ℕ) (loan : Option (MutBor V)) (s : TableView K V H) → IfNone loan (IsPrepared kind hash t s)
       → IfNone loan (IsAbsent wants (pairs_of t.arrays))
       → IfNone loan ((get_by wants (map_of t) ≡ None) × Stays eq (map_of t) (map_of s) × KeepsSlots (map_of t) (map_of s))

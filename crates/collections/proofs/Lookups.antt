@@ -14,7 +14,7 @@ use Rattle.std.proofs.lemmas.Map.Keys.{IsDistinct-IsPermutation}
 use Rattle.std.proofs.lemmas.Option.{slice_get_within, slice_get_read, get_or_from_slice_get}
 use Rattle.bucket_table.specs.Map.LookingUp.{IsAbsent, IsThere}
 
--- two ways to ask of the same key
+-- two ways to test for the same key
 pub same_test : {K : Type 0} (eq : K → K → Bool) (laws : IsEquivalence eq) (k own q : K) → eq own k ≡ true → eq k q ≡ eq q own
 same_test eq laws k own q same = sym (laws.congr own k q same) ∙ laws.symm own q
 
@@ -56,14 +56,14 @@ module _ {K V : Type 0} (eq : K → K → Bool) (laws : IsEquivalence eq) where
       let tail = lookup_same q k ps same in
       ap (λ (b : Bool). cond b (Some p.1) (lookup (eq q) ps)) head ∙ ap (λ (o : Option V). cond (eq k p.0) (Some p.1) o) tail
 
-  -- a pair that is there is found
+  -- a pair that is present is found
   pub lookup_there : (q : K) (ps : List (K × V)) (p : K × V) → IsDistinct eq (keys_of ps) → Contains ps p
       → eq q p.0 ≡ true → lookup (eq q) ps ≡ Some p.1
   lookup_there q ps p distinct there same =
       lookup_same q p.0 ps same ∙ lookup_from_place laws ps there.0 p.0 p.1 distinct
       (slice_get_read ps (length ps) there.0 p refl there.1 (sym there.2))
 
-  -- what is found is there
+  -- what is found is present
   pub there_from_lookup : (q : K) (ps : List (K × V)) (v : V) → lookup (eq q) ps ≡ Some v
       → (k : K) × Contains ps (k, v) × (eq q k ≡ true)
   there_from_lookup q ps v found =
@@ -92,14 +92,14 @@ module _ {K V : Type 0} (eq : K → K → Bool) (laws : IsEquivalence eq) where
       → lookup (eq k) ps ≡ Some p.1
   get_there k ps p distinct there = lookup_there k ps p distinct there.0 (laws.symm k p.0 ∙ there.1)
 
-  -- a pair more
+  -- one more pair
   pub lookup_added : (q : K) (p : K × V) (xs ys : List (K × V)) → IsDistinct eq (keys_of ys)
       → IsPermutation (p ∷ xs) ys → lookup (eq q) ys ≡ cond (eq p.0 q) (Some p.1) (lookup (eq q) xs)
   lookup_added q p xs ys distinct moved =
       lookup_permuted q (p ∷ xs) ys (distinct_permuted ys (p ∷ xs) (IsPermutation-sym (p ∷ xs) ys moved) distinct) moved
       ∙ ap (λ (b : Bool). cond b (Some p.1) (lookup (eq q) xs)) (laws.symm q p.0)
 
-  -- a pair less
+  -- one pair less
   pub lookup_taken : (k q : K) (p : K × V) (xs ys : List (K × V)) → IsDistinct eq (keys_of xs)
       → IsPermutation xs (p ∷ ys) → eq p.0 k ≡ true → lookup (eq q) ys ≡ cond (eq k q) None (lookup (eq q) xs)
   lookup_taken k q p xs ys distinct moved same = elim (cases_Bool (eq k q)) [
@@ -155,7 +155,7 @@ module _ {K V : Type 0} (test : K → Bool) where
     | inr miss ↦ one_more p ps miss (none_from_lookup ps (sym (lookup_tail test p ps miss) ∙ none))
   ]
 
--- a test passes the equals of each key that it passes, and no other
+-- a test passes the keys equal to each key that it passes, and no other
 abbrev pub IsForm : {K : Type 0} → (K → K → Bool) → (K → Bool) → Type 0
 IsForm {K} eq test = (key other : K) → test key ≡ true → test other ≡ eq key other
 
@@ -183,7 +183,7 @@ module _ {K V : Type 0} (eq : K → K → Bool) (laws : IsEquivalence eq) (test 
           (place.0, slice_get_within xs place.0 pair place.2, get_or_from_slice_get xs place.0 pair pair place.2) in
           form_there ys pair (distinct_permuted eq laws xs ys moved distinct) (Contains-permutation xs ys pair moved there) place.3 ∙ sym e
 
-  -- the pair that it passes is out
+  -- the pair that it passes is removed
   pub form_taken : (q : K) (p : K × V) (xs ys : List (K × V)) → IsDistinct eq (keys_of xs) → IsPermutation xs (p ∷ ys)
       → test p.0 ≡ true → lookup (eq q) ys ≡ cond (test q) None (lookup (eq q) xs)
   form_taken q p xs ys distinct moved passes = lookup_taken eq laws p.0 q p xs ys distinct moved (laws.refl p.0)
@@ -196,7 +196,7 @@ module _ {K V : Type 0} (eq : K → K → Bool) (laws : IsEquivalence eq) (test 
       lookup_changed eq laws p.0 q p v rest xs ys distinct before after (laws.refl p.0)
       ∙ ap (λ (b : Bool). cond b (Some v) (lookup (eq q) xs)) (sym (alike p.0 q passes))
 
--- a look-up finds what it finds where more pairs come behind, or nothing
+-- a look-up finds the same or nothing if more pairs come after it
 found_first : {K V : Type 0} (test : K → Bool) (xs ys : List (K × V)) → (lookup test xs ≡ lookup test (xs ++ ys)) ⊎ (lookup test xs ≡ None)
 found_first test [] ys = inr refl
 found_first test (p ∷ xs) ys = elim (cases_Bool (test p.0)) [
@@ -204,7 +204,7 @@ found_first test (p ∷ xs) ys = elim (cases_Bool (test p.0)) [
   | inr miss ↦ ⊎_elim (λ same. inl (rw miss same)) (λ none. inr (rw miss none)) (found_first test xs ys)
 ]
 
--- where pairs are gone, each key has the value that it had, or none
+-- if pairs are removed, each key has the value that it had, or none
 pub kept_or_gone : {K V : Type 0} (eq : K → K → Bool) (laws : IsEquivalence eq) (old gone new : List (K × V)) → IsDistinct eq (keys_of old)
     → IsPermutation old (gone ++ new) → (key : K) → (lookup (eq key) new ≡ lookup (eq key) old) ⊎ (lookup (eq key) new ≡ None)
 kept_or_gone eq laws old gone new distinct parts key =

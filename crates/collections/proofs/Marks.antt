@@ -1,4 +1,4 @@
--- That no mark is new where a table inserts.
+-- A table's insertion adds no tombstone.
 use Rattle.std.proofs.Common.{ℕ, ◌≡◌, Bool, true, false, Result, Ok, Err, List, [], ◌∷◌, ap, arith, length, refl, sym}
 use Rattle.std.proofs.Common.{subst}
 use Rattle.bucket_slots.specs.BucketView.{BucketView, marks_in}
@@ -23,13 +23,13 @@ module _ {K V : Type 0} where
   no_new-left true marks = no_new-none marks
   no_new-left false marks = no_new-refl marks
 
-  -- an insertion into a bucket brings no mark
+  -- an insertion into a bucket adds no tombstone
   no_new-after_insertion : (kind : ℕ) (s : BucketView K V) (pair : K × V) (byte : ℕ)
       → HasNoNewMark (marks_in s) (marks_in (slots_after_insertion kind none_kept s pair byte))
   no_new-after_insertion kind s pair byte =
       rw (marks_in-slots_after_insertion kind s pair byte) (no_new-left (looks_at_marks kind s) (marks_in s))
 
-  -- nor does another bucket that brings none to its own
+  -- nor does another bucket that adds none to its own
   pub marks_of-arrays_with : (arrays : ArraysView K V) (side : Side) (index : ℕ) (left : BucketView K V)
       → HasNoNewMark (marks_in (bucket_on arrays side index)) (marks_in left)
       → HasNoNewMark (marks_of arrays) (marks_of (arrays_with arrays side index left))
@@ -63,7 +63,7 @@ module _ {K V H A : Type 0} (kind : ℕ) (pair : K × V) (byte : ℕ) where
   inserted_at old (Err (Memory k v)) (Ok at) new (full, same) = rw same (no_new-refl (marks_of old.arrays))
   inserted_at old (Err (Memory k v)) (Err e) new same = rw same (no_new-refl (marks_of old.arrays))
 
-  -- an insertion into a table brings no mark
+  -- an insertion into a table adds no tombstone
   pub no_new-inserted : (hash : ℕ) (old : TableView K V H) (r : Result A (NotInserted K V)) (new : TableView K V H)
       → FindsThen Counted kind hash old (λ answer between. InsertsAt kind none_kept pair byte between r answer new)
       → HasNoNewMark (marks_of old.arrays) (marks_of new.arrays)
@@ -71,7 +71,7 @@ module _ {K V H A : Type 0} (kind : ℕ) (pair : K × V) (byte : ℕ) where
       no_new-trans (marks_of old.arrays) (marks_of f.between.arrays) (marks_of new.arrays)
       (found kind hash old f.between f.answer f.found) (inserted_at f.between r f.answer new f.done)
 
--- of no tombstones, none of which is new, there are none
+-- if there were no tombstones and none is new, there are none
 pub still_unmarked : {K V : Type 0} (old new : List ((K × V) × ℕ)) → HasNoNewMark old new → old ≡ [] → new ≡ []
 still_unmarked old [] none empty = refl
 still_unmarked old (mark ∷ marks) none empty =

@@ -1,4 +1,4 @@
--- Pairs of a cache's old array have moved on.
+-- Pairs of a cache's old array have moved.
 use Rattle.std.proofs.Common.{ℕ, ◌≡◌, ◌<◌, Bool, ap, arith, length, refl}
 use Rattle.std.specs.Cmp.{IsEquivalence}
 use Rattle.std.specs.List.{IsDistinct}
@@ -15,7 +15,7 @@ use Rattle.collections.proofs.Lookups.{distinct_permuted}
 use Rattle.collections.proofs.Steps.{stays}
 
 module _ {K V : Type 0} where
-  -- what the table keeps is so much, and more
+  -- the facts that the table keeps, and more
   pub moves_on : (old new : ArraysView K V) → KeepsArrays old new → (length old.linked ≡ 0 → new ≡ old) → MovesOn old new
   moves_on old new kept alone = record {
     alone = alone;

@@ -1,4 +1,4 @@
--- The order of use in a cache after a put and after a removal.
+-- The LRU order of a cache after a put and after a removal.
 use Rattle.bucket_table.specs.declared.arrays.side.Side.{Side}
 use Rattle.bucket_table.specs.declared.arrays.side.Side.TheVariants.{Current, Old}
 use Rattle.std.proofs.Common.{ℕ, ◌≡◌, ◌<◌, ◌⊎◌, ◌%◌, inl, inr, Bool, true, false, Option, Some, Result, Ok, Err, length, refl, ap}
@@ -60,7 +60,7 @@ module _ {K V H : Type 0} (hash : ℕ) (old new : TableView K V H) where
   }
 
   module _ (eq : K → K → Bool) (laws : IsEquivalence eq) (distinct : IsDistinct eq (keys_of (pairs_of old.arrays))) where
-    -- what the table puts where it found a bucket
+    -- what the table puts if it found a bucket
     pub puts_home : (pair : K × V) (r : Result (Option (K × V)) (NotInserted K V)) (answer : Result (Side × ℕ) (Unit {0}))
         (between : TableView K V H) → Finds Sampled 67 hash old answer between → PutsAt true pair (hash % 256) between r answer new
         → PutsOrKeeps eq pair hash old r new.arrays
@@ -91,7 +91,7 @@ module _ {K V H : Type 0} (hash : ℕ) (old new : TableView K V H) where
     puts_home pair (Err (Memory k v)) (Ok at) between finds none = absurd none
     puts_home pair (Err (Memory k v)) (Err e) between finds same = rw same (prepared_leaves between finds.prepared)
 
-    -- what the table puts where the slots were doubled first
+    -- what the table puts if the slots were doubled first
     pub puts_split : (pair : K × V) (went : Option (K × V))
         → SplitsThen 67 hash old (λ answer between. PutsAt true pair (hash % 256) between (Ok went) answer new)
         → PutsInHome eq pair hash went old new.arrays
@@ -147,7 +147,7 @@ module _ {K V H : Type 0} (hash : ℕ) (old new : TableView K V H) where
             absurd (omega (arith, within, none, length-set arrays.linked index bucket))
     left pairs false between same = ap (λ (t : TableView K V H). t.arrays) same
 
-    -- what the table takes
+    -- what the table removes
     pub leaves_place : (pairs : ℕ) (removed : Bool)
         → PreparesThen 67 hash old (λ between. ShrinksAt wants slots_without (Some pairs) removed between new)
         → LeavesPlace wants removed old.arrays new.arrays
@@ -157,6 +157,6 @@ module _ {K V H : Type 0} (hash : ℕ) (old new : TableView K V H) where
       left = left pairs removed p.between p.done;
     }
 
--- where nothing is removed
+-- if nothing is removed
 pub leaves_none : {K V : Type 0} (wants : K → Bool) (arrays : ArraysView K V) → LeavesPlace wants false arrays arrays
 leaves_none wants arrays = record { between = arrays; carried = moves_on arrays arrays (kept_none arrays) (λ none. refl); left = refl }

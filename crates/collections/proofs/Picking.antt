@@ -1,4 +1,4 @@
--- A function is asked of what is left, up to the first that it picks: what a step of an iterator leaves, and a closure of keys.
+-- A function is called for the rest, up to the first that it picks: what a step of an iterator leaves, and a closure of keys.
 use Rattle.std.proofs.Common.{Bool, List, None, OnSome, Option, Some, [], ap, arith, false, length, refl, subst, sym, true, ℕ}
 use Rattle.std.proofs.Common.{◌*◌, ◌<◌, ◌∷◌, ◌≡◌}
 use denote.Param.Always.{always_mut, mut_next}
@@ -14,7 +14,7 @@ use Rattle.bucket_table.specs.Walking.Extracting.{AsksPair, KeepsShape}
 use Rattle.collections.specs.Extracting.{AsksKey, KeepsSlots}
 use Rattle.collections.specs.Maps.{map_of}
 
--- arrays whose buckets alone have changed, and that are one map
+-- arrays of which only the buckets have changed, and that are one map
 pub slots_kept : {K V H : Type 0} (eq : K → K → Bool) (hash : K → ℕ) (hasher : H) (old new : ArraysView K V) → KeepsShape old new
     → ∥ IsOneMap eq hash new ∥₁
     → KeepsSlots eq (map_of (record { hasher = hasher; arrays = old })) (map_of (record { hasher = hasher; arrays = new }))
@@ -29,7 +29,7 @@ slots_kept eq hash hasher old new shape one = record {
   old_slots = ap (λ n. 32 * n) shape.linked_len;
 }
 
--- where something is picked, less is left
+-- if something is picked, less is left
 
 one_less : {X : Type 0} (picked : Option X) (x : X) (left still : List X) → OnSome picked (length still < length left)
     → OnSome picked (length still < length (x ∷ left))
@@ -78,7 +78,7 @@ module _ {S F K V : Type 0} (inside : S → F) (IsKept : S → Type 0) (step : S
     picked_or_kept false between last later pairs kept still picked behind ok (more, asked, is) =
         let after = behind more asked in (after.0, (more, after.1, is))
 
-    -- what the closure borrows was asked of the same pairs, and what each call keeps is kept
+    -- the function that the closure borrows was called with the same pairs, and what each call keeps is kept
     pub inside_asked : (first : S) (left : List (K × V)) (picked : Option (K × V)) (last : S) (kept still : List (K × V)) → IsKept first
         → ExtractsNext (AsksPair step) first left picked last kept still
         → IsKept last × ExtractsNext R (inside first) left picked (inside last) kept still
@@ -104,7 +104,7 @@ module _ {F K : Type 0} (asks : Mut F (Bor K × Unit {0}) Bool) where
   may_behind true between last later pairs kept still picked behind may (is, same, none, rest) = subst (always_mut asks) (sym same) may
   may_behind false between last later pairs kept still picked behind may (more, asked, is) = behind more asked
 
-  -- a function of keys that may always be asked may be after a step
+  -- a function of keys that may always be called may also be called after a step
   pub askable_still : (first : F) (left : List (K × Unit {0})) (picked : Option (K × Unit {0})) (last : F)
       (kept still : List (K × Unit {0}))
       → ExtractsNext (AsksKey asks) first left picked last kept still → always_mut asks first → always_mut asks last

@@ -1,4 +1,4 @@
--- A removal that asks first.
+-- A removal with a test.
 use Rattle.std.proofs.Common.{◌≡◌, inl, inr, Bool, true, false, Option, Some, None, sym, ◌∙◌}
 use Rattle.std.specs.Bool.{OnFalse}
 use Rattle.std.specs.Borrow.{Bor}
@@ -12,14 +12,14 @@ use Rattle.collections.proofs.StoredKeys.{taken_there}
 
 module _ {K V H : Type 0} (eq : K → K → Bool) (laws : IsEquivalence eq) (wants : K → Bool) (alike : IsForm eq wants)
     (asks : Bor K → Bor V → Bool → Type 0) (old new : MapView K V H) (unique : IsUnique eq old) where
-  -- where the answer is true there is a pair
+  -- if the result is true there is a pair
   there_is : AsksThere eq wants asks old true → get_by wants old ≡ None → ⊥
   there_is (inl none) absent = let never = none.1 in cc
   there_is (inr (own, value, there, asked)) absent =
       let not_there = sym (form_there eq laws wants alike old.entries (own.now, value.now) unique there.0 there.1) ∙ absent in
       cc
 
-  -- and it is the one that is taken
+  -- and it is the one that is removed
   pub removes_if : (taken : Option (K × V)) → AsksThere eq wants asks old true → Removes eq wants old taken new
       → RemovesIf eq wants asks old taken new
   removes_if None asked none = absurd (there_is asked none.0)
@@ -32,7 +32,7 @@ module _ {K V H : Type 0} (eq : K → K → Bool) (laws : IsEquivalence eq) (wan
   takes_out_if true asked (pair, taken) = (pair, removes_if (Some pair) asked taken)
   takes_out_if false asked none = removes_if None asked none
 
-  -- so one is
+  -- so one is removed
   pub not_none : (P : Type 0) (taken : Option (K × V)) → AsksThere eq wants asks old true → Removes eq wants old taken new → IfNone taken P
   not_none P None asked none = absurd (there_is asked none.0)
   not_none P (Some pair) asked taken = tt

@@ -1,4 +1,4 @@
--- The marks of an index after a removal.
+-- The tombstones of an index after a removal.
 use Rattle.bucket_table.specs.declared.arrays.side.Side.{Side}
 use Rattle.bucket_table.specs.declared.arrays.side.Side.TheVariants.{Current, Old}
 use Rattle.std.proofs.Common.{ℕ, ◌≡◌, ◌<◌, ◌++◌, inl, inr, Bool, true, false, Some, List, [], ◌∷◌, length, replicate, zero, suc, refl}
@@ -25,13 +25,13 @@ use Rattle.collections.proofs.Shrinking.{none_left, removed_ends, tried}
 use Rattle.collections.proofs.StayingMarks.{in_buckets, on_side}
 
 module _ {K V : Type 0} where
-  -- another slot exchanges its mark for what stands there
+  -- replacing a slot exchanges its tombstone for that of the new slot
   marks_in-with_slot : (s : BucketView K V) (block pos : ℕ) (x : Slot K V) → pos < length (block_at s block)
       → IsPermutation (mark_of x ++ marks_in s) (mark_of (slot_at (block_at s block) pos) ++ marks_in (with_slot_at s block pos x))
   marks_in-with_slot s zero pos x short = rows-exchanged marked_entry (s.own ∷ s.chain) zero pos x free short
   marks_in-with_slot s (suc i) pos x short = rows-exchanged marked_entry (s.own ∷ s.chain) (suc i) pos x free short
 
-  -- a pair that is marked adds its mark, among those of its bucket and among all
+  -- a pair that becomes a tombstone adds one, among those of its bucket and among all
   marks_in-marked : (s : BucketView K V) (at : Place) (epoch : ℕ) (pair : K × V) → live_pair (slot_in s at) ≡ Some pair
       → IsPermutation ((pair, epoch) ∷ marks_in s) (marks_in (slots_marked s at epoch))
   marks_in-marked s at epoch pair here =
@@ -55,7 +55,7 @@ module _ {K V : Type 0} where
       IsPermutation-trans _ _ _ (rotated one front (marks_among arrays.linked)) (IsPermutation-append_right front _ _
       (flat_map-exchanged marks_in one [] arrays.linked index _ empty_bucket within (marks_in-marked _ at epoch pair here)))
 
-  -- a new array has none, and so arrays that are pushed or made have the marks that they had
+  -- a new array has none, and so arrays that are pushed or made have the tombstones that they had
   new_marks : (n : ℕ) → marks_among (replicate n (empty_bucket {K = K} {V = V})) ≡ []
   new_marks zero = refl
   new_marks (suc n) = new_marks n
@@ -71,7 +71,7 @@ module _ {K V : Type 0} where
     append-nil (marks_among old.current),
   ) refl
 
-  -- nothing is marked
+  -- nothing becomes a tombstone
   pub none_marked : (arrays : ArraysView K V) → AreEarlierMarks arrays (marks_of arrays)
   none_marked arrays = record {
     earlier = no_new-same (marks_of arrays) (marks_of arrays) refl;
@@ -118,7 +118,7 @@ module _ {K V H : Type 0} (wants : K → Bool) (hash : ℕ) (old between new : T
         | inr (inr (capacity, pushed)) ↦ inl (adds (marks_of-pushed capacity mid new.arrays pushed))
       ]
 
--- a resize keeps the marks, or leaves no array
+-- a resize keeps the tombstones, or leaves no array
 module _ {K V : Type 0} where
   marks_tried : {E : Type 0} (old mid new : ArraysView K V) (answer : Result Bool E) → marks_of mid ≡ marks_of old
       → TriesResize mid answer new → KeepsMarks old new

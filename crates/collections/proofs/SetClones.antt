@@ -1,4 +1,4 @@
--- Clones of keys put into a set in turn, and what a set of clones of the keys of two others has.
+-- Clones of keys inserted into a set in turn, and the contents of a set of clones of the keys of two others.
 use Rattle.std.proofs.Common.{◌≡◌, ◌∙◌, ◌&&◌, ◌||◌, Bool, true, false, Some, Option, Result, Ok, Err, IfOk, cond, List, [], ◌∷◌, ◌++◌}
 use Rattle.std.proofs.Common.{map, is_some, not, ap, refl, subst, sym}
 use Rattle.std.specs.Borrow.{Bor}
@@ -20,7 +20,7 @@ use Rattle.collections.specs.Maps.{IsUnique, MapView, contains}
 use Rattle.collections.proofs.Lookups.{lookup_same}
 use Rattle.collections.proofs.SetCollecting.{no_key_put, one_more_key, stays_then_keys}
 
--- what an iterator over lent items of a list gave, all of it
+-- what an iterator over the lent items of a list returned, all of it
 drained : {S A : Type 0} (rest : S → List A) (s : S) (lent : List (Bor A)) → Drains (YieldsFirstRef rest) s lent
     → map (λ x. x.now) lent ≡ rest s
 drained rest s lent (u, (t, yields, step)) =
@@ -38,7 +38,7 @@ or_rest false true = refl
 or_rest false false = refl
 
 module _ {K : Type 0} (eq : K → K → Bool) where
-  -- of clones a key is equal to the same as of what they are clones of
+  -- a key is equal to clones exactly as to their originals
   any_clone : (laws : IsEquivalence eq) (IsKey : K → K → Type 0) (q : K) (keys clones : List K) → AllZip (IsClonedKey eq IsKey) keys clones
       → list_any (eq q) clones ≡ list_any (eq q) keys
   any_clone laws IsKey q [] [] same = refl
@@ -102,7 +102,7 @@ module _ {K H : Type 0} (eq : K → K → Bool) (laws : IsEquivalence eq) (IsKey
       ∙ ap (λ b. b || list_any (eq q) (keys_outside eq other own)) (any_outside q own other)
       ∙ ap (λ b. (contains eq own q && not (contains eq other q)) || b) (any_outside q other own)
 
-  -- clones put into a set that was made empty, and in which room was made
+  -- clones inserted into a set that was made empty, and in which room was made
   pub puts_into_new : {S : Type 0} (steps : S → Option (Bor K) → S → Type 0) (s : S) (first ready made : MapView K (Unit {0}) H)
       → first ≡ empty_map first.hasher → Stays eq first ready → PutsClonesFrom eq IsKey steps s ready made
       → PutsClonesFrom eq IsKey steps s (empty_map made.hasher) made

@@ -1,4 +1,4 @@
--- Many keys put into a set in turn: one more of them.
+-- Many keys inserted into a set in turn: one more of them.
 use Rattle.std.proofs.Common.{◌≡◌, ◌||◌, Bool, true, false, cond, Option, Some, List, [], ◌∷◌, ◌++◌, is_some}
 use Rattle.std.proofs.Common.{refl, sym, ap, subst, ◌∙◌}
 use Rattle.std.specs.Prelude.{MatchBool, Ok, ◌^◌}
@@ -26,7 +26,7 @@ or_assoc : (a b c : Bool) → ((a || b) || c) ≡ (a || (b || c))
 or_assoc true b c = refl
 or_assoc false b c = refl
 
--- what holds where another does is the same beside it
+-- what holds if another statement does equals the disjunction of both
 same_or : (a b : Bool) → (b ≡ true → a ≡ true) → a ≡ (a || b)
 same_or a true so = so refl ∙ sym (or_true a)
 same_or a false so = sym (or_false a)
@@ -37,7 +37,7 @@ some_or false o = sym (or_false (is_some o))
 
 module _ {K H : Type 0} (eq : K → K → Bool) (laws : IsEquivalence eq) where
   module _ (old new : MapView K (Unit {0}) H) (key : K) where
-    -- what an insertion that answers by a truth value did
+    -- what an insertion with a truth value as its result did
     pub added_put : (answer : Bool) → SetAdds eq key old (Ok answer) new → PutsKey eq old key new
     added_put true added =
         subst (λ (o : Option (Unit {0})). MatchBool (is_some o) (Stays eq old new) (Adds eq old key tt new)) (sym added.absent) added
@@ -52,7 +52,7 @@ module _ {K H : Type 0} (eq : K → K → Bool) (laws : IsEquivalence eq) where
     put_keeps : PutsKey eq old key new → Keeps eq old new
     put_keeps put = put_cases (contains eq old key) refl (λ is s. s.kept) (λ a. a.kept) put
 
-    -- the set has the key then, and what it had
+    -- then the set contains the key, and its earlier keys
     put_contains : (q : K) → PutsKey eq old key new → contains eq new q ≡ (contains eq old q || eq q key)
     put_contains q put = put_cases (contains eq old key) refl
         (λ is s.
@@ -64,7 +64,7 @@ module _ {K H : Type 0} (eq : K → K → Bool) (laws : IsEquivalence eq) where
         ∙ some_or (eq q key) (get eq old q))
         put
 
-  -- after a set moved its keys
+  -- the same after a set moved its keys
   put_after : (old between new : MapView K (Unit {0}) H) → Stays eq old between → (key : K) → PutsKey eq between key new
       → PutsKey eq old key new
   put_after old between new stays key put =
@@ -105,7 +105,7 @@ module _ {K H : Type 0} (eq : K → K → Bool) (laws : IsEquivalence eq) where
         kept = keeps_then eq old mid new puts.kept kept;
       }
 
-  -- and the set may move its keys then
+  -- and the set may move its keys afterwards
   pub keys_then_stay : (old mid new : MapView K (Unit {0}) H) (keys : List K) → PutsKeys eq old keys mid → Stays eq mid new
       → PutsKeys eq old keys new
   keys_then_stay old mid new keys puts stays = record {
@@ -134,7 +134,7 @@ module _ {K H : Type 0} (eq : K → K → Bool) (laws : IsEquivalence eq) where
       from_before [] between last is = (old, refl, stays_after eq old mid new stays (subst (λ m. Stays eq m new) (sym is) last))
       from_before (k ∷ ks) between last went = (between, (went.0, put_after old mid went.0 stays k went.1, went.2), last)
 
-  -- a set of which no more is said than that it was made empty, and that room was made in it
+  -- a set that was made empty, and in which room was made; nothing else is known of it
   pub keys_into_new : (first ready made : MapView K (Unit {0}) H) (keys : List K) → IsEmpty first → first.minimum ≡ 64
       → first.maximum ≡ 2 ^ 63 → (first.slots ≡ 0) × (first.old_slots ≡ 0) → first.bucket_lens ≡ [] → Stays eq first ready
       → PutsKeys eq ready keys made → PutsKeys eq (empty_map made.hasher) keys made

@@ -1,4 +1,4 @@
--- A key of a set is put where it is absent, or in the place of an equal one.
+-- A key of a set is inserted if it is absent, or replaces an equal one.
 use Rattle.std.proofs.Common.{ℕ, ◌≡◌, Bool, true, false, Result, Ok, Err, ◌∷◌, ap, is_some, refl}
 use Rattle.std.proofs.Common.{sym, ◌∙◌, arith, inl, inr}
 use Rattle.std.proofs.lemmas.Bool.{cases_Bool, true≢false}
@@ -18,13 +18,13 @@ use Rattle.collections.proofs.Lookups.{lookup_added, lookup_same, lookup_taken, 
 use Rattle.collections.proofs.Steps.{absent, stays}
 
 module _ {K H : Type 0} (eq : K → K → Bool) (laws : IsEquivalence eq) (key : K) where
-  -- where the key was absent it was put
+  -- if the key was absent it was inserted
   pub put_absent : (old new : MapView K (Unit {0}) H) (answer : Bool) → contains eq old key ≡ false
       → SetAdds eq key old (Ok answer) new → Adds eq old key tt new
   put_absent old new true there added = added
   put_absent old new false there (some, same) = absurd (true≢false (sym some ∙ there))
 
-  -- where one is there, the key doesn't come back
+  -- if one is present, the key isn't returned
   pub not_back : (old new : MapView K (Unit {0}) H) (back : K) → contains eq old key ≡ true → SwapsKey eq key old (Err back) new → ⊥
   not_back old new back there (same, none, kept) = true≢false (sym there ∙ ap is_some none)
 

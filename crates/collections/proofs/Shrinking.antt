@@ -13,7 +13,7 @@ use Rattle.bucket_table.specs.declared.arrays.side.Side.{Side}
 use Rattle.bucket_table.proofs.CallerLemmas.{gives_up_at_zero}
 
 module _ {K V : Type 0} where
-  -- the arrays stay, or are given up where the minimum is 0, or are pushed
+  -- the arrays stay, or are dropped if the minimum is 0, or are pushed
   abbrev pub Ends : ArraysView K V → ArraysView K V → Type 0
   Ends old new = (new ≡ old) ⊎ (((old.minimum ≡ 0) × IsGivenUp old new) ⊎ ((capacity : ℕ) × IsPushed capacity old new))
 
@@ -23,7 +23,7 @@ module _ {K V : Type 0} where
   tried old new (Ok true) (inr moved) = inr (inr (moved.0, moved.2))
   tried old new (Err refused) tries = inl tries.2
 
-  -- so they do where slots are freed
+  -- and so they do if slots are freed
   pub freed : (pairs : ℕ) (plan : Plan) (old new : ArraysView K V) → IsPlanOf old plan → FreesSlots pairs plan old new → Ends old new
   freed pairs Keep old new is same = inl same
   freed pairs GiveUp old new is gone = inr (inl (gives_up_at_zero old is, gone))
@@ -38,7 +38,7 @@ module _ {K V : Type 0} where
       freed pairs plan (arrays_with arrays side index bucket) new is frees
   removed_ends pairs arrays side index bucket new (inr stays) = inl stays.1
 
-  -- an array that is given up leaves none
+  -- dropping an array leaves none
   pub none_left : (old new : ArraysView K V) → (old.minimum ≡ 0) × IsGivenUp old new
       → (new.minimum ≡ 0) × (new.current ++ new.linked ≡ [])
   none_left old new (least, gone) = rw gone.new_is (least, nil_from_length old.linked gone.alone)

@@ -1,4 +1,4 @@
--- What becomes of the slots where a bucket is found for an insertion.
+-- What happens to the slots if a bucket is found for an insertion.
 use Rattle.std.proofs.Common.{ℕ, ◌≡◌, ◌<◌, ◌≤◌, ◌+◌, ◌*◌, ◌/◌, ◌%◌, Bool, true, false, Option, Some, None, Result, Ok, Err, List, ◌∷◌, ◌⊎◌}
 use Rattle.std.proofs.Common.{inl, inr, is_some, suc, ◌-◌}
 use Rattle.std.specs.Borrow.{Bor}
@@ -49,7 +49,7 @@ module _ {K V : Type 0} where
   len_with a Old Current i b = refl
   len_with a Old Old i b = length-set a.linked i b
 
-  -- an old array stands on, or is gone
+  -- an old array stays, or is dropped
   stands_on : {steps : ℕ} {GetsReady : ℕ → Type 0} (old new : ArraysView K V) → WorksUnits steps GetsReady old new
       → (length new.linked ≡ length old.linked) ⊎ (length new.linked ≡ 0)
   stands_on old new works = elim (cases_lt 0 (length new.linked)) [
@@ -79,7 +79,7 @@ module _ {K V H : Type 0} (old new : TableView K V H) where
     ];
   }
 
-  -- a unit that is worked, and a bucket that gets ready
+  -- a unit that is worked, and a bucket that is prepared
   pub prepared_keeps : (kind hash : ℕ) (between : TableView K V H) → IsPrepared kind hash old between → AreAsLong between.arrays new.arrays
       → KeepsSlots (map_of old) (map_of new)
   prepared_keeps kind hash between prepared long = keeps_by between.arrays prepared.kept.current_len prepared.units long
@@ -106,7 +106,7 @@ module _ {K V H : Type 0} (old new : TableView K V H) where
     abbrev IsNearlyFull : ℕ → Type 0
     IsNearlyFull len = HasAtHome 31 (hash_of old.hasher) key (32 * len) (pairs_of old.arrays)
 
-    -- no pair is anywhere where there is no array
+    -- there is no pair if there is no array
     no_home : (len : ℕ) → length old.arrays.current ≡ 0 → length old.arrays.linked ≡ 0 → IsNearlyFull len → ⊥
     no_home len none alone full =
         let current = nil_from_length old.arrays.current none in
@@ -114,7 +114,7 @@ module _ {K V H : Type 0} (old new : TableView K V H) where
         let many = rw (current, linked) at full.1 in
         omega (arith, many)
 
-    -- arrays that grew where a bucket was nearly full
+    -- arrays that grew because a bucket was nearly full
     pushed_grows : (between : ArraysView K V) (index capacity : ℕ) (ready : ArraysView K V) → MakesReady old.arrays index ready
         → IsPushed capacity ready between → AreAsLong between new.arrays → 31 ≤ length (pairs_in (bucket_at ready.current index))
         → (31 ≤ length (pairs_in (bucket_at between.linked index)) → IsNearlyFull (length between.linked))
@@ -138,7 +138,7 @@ module _ {K V H : Type 0} (old new : TableView K V H) where
           ]
         ]
 
-    -- a bucket that was found, where the pairs in it have it as their home
+    -- a bucket that was found, if the pairs in it have it as their home
     pub found_grows : (kind hash : ℕ) (between : TableView K V H) (side : Side) (index : ℕ)
         → FindsBucket Counted kind hash old side index between
         → AreAsLong between.arrays new.arrays
@@ -178,7 +178,7 @@ module _ {K V H : Type 0} (old new : TableView K V H) where
             ]
 
 module _ {K V : Type 0} where
-  -- an insertion into a bucket is one pair more there
+  -- an insertion into a bucket adds one pair there
   len-after_insertion : (kind : ℕ) (keeps : ℕ → Bool) (b : BucketView K V) (p : K × V) (byte : ℕ)
       → length (pairs_in (slots_after_insertion kind keeps b p byte)) ≡ length (pairs_in b) + 1
   len-after_insertion kind keeps b p byte =
@@ -216,7 +216,7 @@ module _ {K V : Type 0} where
   bucket_with a Current i b within = get_or-set_same a.current i b empty_bucket within
   bucket_with a Old i b within = get_or-set_same a.linked i b empty_bucket within
 
--- a call that changes a place, where a pair is wanted, after a bucket was made ready
+-- a call that changes a place, if a pair matches, after a bucket was prepared
 pub changed_keeps : {K V H : Type 0} (kind hash : ℕ) (old new : TableView K V H) (wants : K → Bool)
     (change : BucketView K V → Place → BucketView K V) (is_there : Bool)
     → PreparesThen kind hash old (λ between. ChangesAt wants change is_there between new)
@@ -234,7 +234,7 @@ min_with : {K V : Type 0} (a : ArraysView K V) (side : Side) (i : ℕ) (b : Buck
 min_with a Current i b = refl
 min_with a Old i b = refl
 
--- one pair less where one was taken out
+-- one pair less if one was removed
 pub fewer_taken : {K V H : Type 0} (kind : ℕ) (wants : K → Bool) (old new : TableView K V H) (r : Option (K × V))
     → Takes wants (state_of kind old) r (state_of kind new) → is_some r ≡ true
     → length (pairs_of old.arrays) ≡ suc (length (pairs_of new.arrays))
@@ -249,7 +249,7 @@ fewer_marked kind wants reads old new (Some answer) (own, value, read, wanted, x
     omega (arith, length_permutation (pairs_of old.arrays) ((own.now, value.now) ∷ pairs_of new.arrays) x.pairs)
 fewer_marked kind wants reads old new None x is = absurd cc
 
--- a call that takes a pair out where one is wanted, after a bucket was made ready
+-- a call that removes a pair if one matches, after a bucket was prepared
 pub taken_loses : {K V H : Type 0} (kind hash : ℕ) (old new : TableView K V H) (wants : K → Bool)
     (change : BucketView K V → Place → BucketView K V) (is_there : Bool)
     → (0 < length old.arrays.current → IsLength (length old.arrays.current))
@@ -317,7 +317,7 @@ taken_loses {K} {V} {H} kind hash old new wants change true long fewer moved = f
                   inr (gone (inl (omega (arith, ap (λ (a : ArraysView K V). length a.linked) pushed.new_is, len))) sparse asks)
             ]
 
--- a call that writes a value where a pair is wanted
+-- a call that writes a value if a pair matches
 pub written_keeps : {K V H : Type 0} (kind hash : ℕ) (old new : TableView K V H) (wants : K → Bool) (is_there : Bool)
     → PreparesThen kind hash old (λ between. WritesAt wants is_there between new) → KeepsSlots (map_of old) (map_of new)
 written_keeps kind hash old new wants true moved =
@@ -333,7 +333,7 @@ module _ {K V H : Type 0} (hash_of : H → K → ℕ) (key : K) where
   unfolding GrowsSlots
   keeps_grows old new keeps = inl keeps
 
-  -- nor is a table in which no bucket was found
+  -- nor does a table in which no bucket was found
   pub unfound_grows : (kind hash : ℕ) (old new : TableView K V H) → IsPrepared kind hash old new
       → GrowsSlots hash_of key (map_of old) (map_of new)
   unfound_grows kind hash old new prepared =
@@ -366,7 +366,7 @@ slots_same old new slots old_slots = record { slots = slots; old_slots = inl old
 
 module _ {K V H : Type 0} (hash_of : H → K → ℕ) (key : K) (old new : TableView K V H) (placed : ArePlaced (hash_of new.hasher) new.arrays)
     (beside : 0 < length new.arrays.linked → 0 < length new.arrays.current) where
-  -- so many pairs in a home, of which some came, and the others were there
+  -- that many pairs in a home, of which some came, and the others were present
   pub nearly : (count came : ℕ) (side : Side) (index len : ℕ) → old.hasher ≡ new.hasher → length (buckets_on new.arrays side) ≡ len
       → IsHome len (hash_of old.hasher key) index → count + came ≤ length (pairs_in (bucket_on new.arrays side index))
       → homed_len (hash_of old.hasher) ((32 * len) / 32) (home_of ((32 * len) / 32) (hash_of old.hasher key)) (pairs_of new.arrays)
@@ -472,7 +472,7 @@ module _ {K V H : Type 0} (hash_of : H → K → ℕ) (key : K) (old new : Table
         nearly 31 0 Old found.1 len (sym (ap (λ others. others.hasher) changed.after.others)) long home
         (omega (arith, many, count)) (omega (arith, now, was)))
 
-    -- and one that would write its value beside an equal key
+    -- and one that would replace the value of an equal key
     pub upsertion_grows : (r : Result (Option V) (K × V)) (answer : Result (Side × ℕ) (Unit {0})) (between : TableView K V H)
         → Finds Counted kind (hash_of old.hasher key) old answer between
         → UpsertsAt eq kind keeps key value (hash_of old.hasher key % 256) between r answer new

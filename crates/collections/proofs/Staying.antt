@@ -1,4 +1,4 @@
--- The map stays, and then a call does something to it: so it does that to the map of before.
+-- The map stays, and then a call does something to it: so the call does that to the earlier map.
 use Rattle.std.proofs.Common.{Bool, cond, Option, Some, ◌∷◌, ◌≡◌, sym, ap, ◌+◌, ◌∙◌}
 use Rattle.std.proofs.lemmas.List.Sorted.{IsPermutation-cons, IsPermutation-trans}
 use Rattle.collections.specs.Changes.{Adds, Keeps, Replaces, Stays}

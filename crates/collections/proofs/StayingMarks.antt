@@ -1,4 +1,4 @@
--- That the marks of a current array stay where old pairs move on, beside what else a call does.
+-- The tombstones of a current array stay if old pairs move, whatever else a call does.
 use Rattle.std.proofs.Common.{ℕ, ◌≡◌, false, List, [], ◌∷◌, Some, inl, inr, refl, suc, zero, ap, ◌∙◌, arith}
 use Rattle.std.specs.List.{Contains}
 use Rattle.std.proofs.lemmas.List.Elements.{Contains-append_cases}
@@ -20,7 +20,7 @@ module _ {K V : Type 0} where
   mark_not_free (live pair byte) mark here = refl
   mark_not_free (marked pair epoch) mark here = refl
 
-  -- a bucket whose occupied slots stay keeps its marks
+  -- a bucket whose occupied slots stay keeps its tombstones
   in_bucket : (b c : BucketView K V) → ((at : Place) → is_free (slot_in b at) ≡ false → slot_in c at ≡ slot_in b at)
       → HasNoNewMark (marks_in c) (marks_in b)
   in_bucket b c stay = record {
@@ -53,7 +53,7 @@ module _ {K V : Type 0} where
         (no_new-at marks_in new i empty_bucket refl).stood mark ((in_bucket (bucket_at old i) (bucket_at new i) (stay i)).stood mark here);
   }
 
-  -- the marks of one array are marks
+  -- the tombstones of one array are tombstones
   pub on_side : (arrays : ArraysView K V) (side : Side) → HasNoNewMark (marks_of arrays) (marks_among (buckets_on arrays side))
   on_side arrays Current = no_new-front (marks_among arrays.current) (marks_among arrays.linked)
   on_side arrays Old = no_new-rest (marks_among arrays.current) (marks_among arrays.linked)

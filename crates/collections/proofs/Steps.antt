@@ -21,7 +21,7 @@ use Rattle.collections.specs.Changes.{Adds, Displaces, HandsBack, Inserts, Keeps
 use Rattle.collections.proofs.Lookups.{IsForm, form_absent, form_changed, form_taken, form_there, get_absent, get_there, lookup_added}
 use Rattle.collections.proofs.Lookups.{lookup_permuted, lookup_taken}
 
--- a table's answer, the pair that comes back in the error of std
+-- a table's result, with the returned pair in std's error
 abbrev pub as_failed : {A E : Type 0} → Result A E → Result A (AllocFailed E)
 as_failed (Ok x) = Ok x
 as_failed (Err back) = Err (record { value = back })
@@ -166,7 +166,7 @@ module _ {K V H : Type 0} (eq : K → K → Bool) (laws : IsEquivalence eq) wher
     };
   }
 
-  -- all of the minimum is given back
+  -- the minimum is lowered by all of it
   pub released : (kind : ℕ) (t s : TableView K V H) → IsDistinct eq (keys_of (pairs_of t.arrays))
       → IsDistinct eq (keys_of (pairs_of s.arrays))
       → (m answer : ℕ) → m ≡ t.arrays.minimum → LowersMinimum m (state_of kind t) answer (state_of kind s)

@@ -14,7 +14,7 @@ use Rattle.collections.specs.StoredKeys.{ReplacesKey}
 use Rattle.collections.proofs.Lookups.{IsForm, form_there, lookup_same}
 
 module _ {K V : Type 0} where
-  -- each key, beside itself
+  -- each key, paired with itself
   abbrev doubled : List (K × V) → List (K × K)
   doubled ps = map (λ p. (p.0, p.0)) ps
 
@@ -33,7 +33,7 @@ module _ {K V : Type 0} where
       let rest = Contains-doubled ps p (i, omega (arith, below), is) in
       (suc rest.0, omega (arith, rest.1), rest.2)
 
-  -- a test that passes the equals of one key finds its key
+  -- a test that passes the keys equal to one key finds its key
   pub key_there : (eq : K → K → Bool) → IsEquivalence eq → (test : K → Bool) → IsForm eq test → (ps : List (K × V)) (p : K × V)
       → IsDistinct eq (keys_of ps) → Contains ps p → test p.0 ≡ true → lookup_key test ps ≡ Some p.0
   key_there eq laws test alike ps p distinct there passes = sym (lookup-doubled test ps)
@@ -47,7 +47,7 @@ module _ {K V : Type 0} where
       ∙ key_absent test ps (λ i d below. none (suc i) d (omega arith))
 
 module _ {K V : Type 0} (eq : K → K → Bool) (laws : IsEquivalence eq) (wants : K → Bool) (alike : IsForm eq wants) where
-  -- wanted pairs of distinct keys are one pair
+  -- matching pairs of distinct keys are one pair
   pub same_pair : (ps : List (K × V)) (p q : K × V) → IsDistinct eq (keys_of ps) → Contains ps p → Contains ps q → wants p.0 ≡ true
       → wants q.0 ≡ true → p ≡ q
   same_pair ps p q distinct has_p has_q at_p at_q =
@@ -59,7 +59,7 @@ module _ {K V : Type 0} (eq : K → K → Bool) (laws : IsEquivalence eq) (wants
       let value : p.1 ≡ q.1 = cc in
       λ i. (own i, value i)
 
-  -- the pair that is taken is the one that was there
+  -- the pair that is removed is the one that was present
   pub taken_there : {H : Type 0} (old new : MapView K V H) (pair : K × V) → Takes eq old wants pair new → (p : K × V) → IsUnique eq old
       → IsThere wants old.entries p → p ≡ pair
   taken_there old new pair taken p unique there =
@@ -69,7 +69,7 @@ module _ {K V : Type 0} (eq : K → K → Bool) (laws : IsEquivalence eq) (wants
 
 module _ {K V H : Type 0} (eq : K → K → Bool) (laws : IsEquivalence eq) (key : K) (old new : MapView K V H) (pair : K × V)
     (taken : Takes eq old (eq key) pair new) where
-  -- a pair is taken, and then another stands in its place, whose key is equal, beside the same value
+  -- a pair is removed, and then another is in its place, with an equal key and the same value
   pub replaced_key : (later : MapView K V H) → Adds eq new key pair.1 later → ReplacesKey eq old pair key later
   replaced_key later added = record {
     same = laws.symm pair.0 key ∙ taken.same;

@@ -1,4 +1,4 @@
--- The pair under a wanted key of a cache was touched where it stands, or none is wanted.
+-- The pair under a matching key of a cache was touched in its place, or no key matches.
 use Rattle.std.proofs.Common.{ℕ, ◌≡◌, Bool, true, false, Some, None, is_some, refl, sym, ap, ◌∙◌}
 use Rattle.std.specs.Prelude.{IsSome, MatchBool}
 use Rattle.std.specs.Cmp.{IsEquivalence}
@@ -36,19 +36,19 @@ module _ {K V H : Type 0} (eq : K → K → Bool) (laws : IsEquivalence eq) (t b
   pub kept : Stays eq (map_of t) (map_of b)
   kept = stays eq laws 67 t b distinct (distinct_permuted eq laws (pairs_of t.arrays) (pairs_of b.arrays) keeps.pairs distinct) keeps
 
-  -- no key is wanted
+  -- no key matches
   pub missed : IsAbsent wants (pairs_of b.arrays) → get_by wants (map_of t) ≡ None
   missed absent = form_absent wants (pairs_of t.arrays) (All-permutation (λ (p : K × V). wants p.0 ≡ false) (pairs_of b.arrays)
       (pairs_of t.arrays) (IsPermutation-sym (pairs_of t.arrays) (pairs_of b.arrays) keeps.pairs) absent)
 
-  -- a pair with a wanted key is there
+  -- a pair with a matching key is present
   pub present : (side : Side) (index : ℕ) (at : Place) → StandsAt wants b.arrays side index at → IsSome (get_by wants (map_of t))
   present side index at stands =
       let there = there_before wants (state_of 67 t) (state_of 67 b) stands.pair keeps stands.there in
       rw (form_there eq laws wants alike (pairs_of t.arrays) stands.pair distinct there.0 there.1) refl
 
   module _ (hash : ℕ) where
-    -- no pair is there to touch
+    -- there is no pair to touch
     pub untouched : IsPrepared 67 hash t b → IsTouched eq wants false t b
     untouched prepared = record { map = kept; between = b.arrays; carried = prepared_moves hash t b prepared; touched = refl }
 
@@ -79,7 +79,7 @@ module _ {K V H : Type 0} (eq : K → K → Bool) (laws : IsEquivalence eq) (t b
             let whole = then_changed (state_of 67 t) (state_of 67 b) (state_of 67 s) p v keeps changed in
             replaces eq laws 67 t s distinct (distinct_changed eq laws 67 t distinct wants alike s p v whole) wants alike p v there.1 whole
 
-      -- and where it stands
+      -- and where it is
       pub written_there : (v : V) → IsWritten true wants eq true t (with_value b side index at v)
       written_there v = placed eq laws t (with_value b side index at v) distinct wants alike hash true moved.between moved.prepared v
           (side, index, at, moved.done.0, twice)
@@ -98,7 +98,7 @@ module _ {K V H : Type 0} (eq : K → K → Bool) (laws : IsEquivalence eq) (t b
 
 module _ {K V H : Type 0} (eq : K → K → Bool) (laws : IsEquivalence eq) (t s : TableView K V H)
     (distinct : IsDistinct eq (keys_of (pairs_of t.arrays))) (wants : K → Bool) (alike : IsForm eq wants) (hash : ℕ) where
-  -- where the value that was lent is written again, its pair was touched and nothing else
+  -- if the value that was lent is written again, its pair was touched and nothing else
   pub read_touched : (own : K) (value : V) → IsThere wants (pairs_of t.arrays) (own, value) → WritesUnder true wants 67 hash t value value s
       → IsTouched eq wants true t s
   read_touched own value there wrote =
@@ -137,7 +137,7 @@ module _ {K V H : Type 0} (eq : K → K → Bool) (laws : IsEquivalence eq) (t s
     touched = touched_at r moved.between moved.done;
   }
 
-  -- the table's touch answers whether the map has the key
+  -- the table's touch returns whether the map contains the key
   pub promoted : (r : Bool) → Touches wants (state_of 67 t) r (state_of 67 s)
       → PreparesThen 67 hash t (λ between. ChangesAt wants (slots_touched true) r between s)
       → (r ≡ contains_by wants (map_of t)) × IsTouched eq wants r t s

@@ -1,4 +1,4 @@
--- A pair is put into a cache after a search that met none.
+-- A pair is put into a cache after a search that found none.
 use Rattle.std.proofs.Common.{ℕ, ◌≡◌, ◌<◌, ◌%◌, Bool, true, Option, Result, Ok, Err, length, inl, inr, refl, ap, ◌∙◌}
 use Rattle.std.specs.Cmp.{IsEquivalence}
 use Rattle.std.specs.List.{IsDistinct}
@@ -73,7 +73,7 @@ module _ {K V H : Type 0} (eq : K → K → Bool) (laws : IsEquivalence eq) (has
     pub put_vacant : PutsVacant eq hash_of key value hash first r s
     put_vacant = answers r refl map home
 
--- what a put into a cache answers, then
+-- the result of a put into a cache then
 pub vacant_put : {K V H : Type 0} (eq : K → K → Bool) (hash_of : H → K → ℕ) (key : K) (value : V) (hash : ℕ) (first s : TableView K V H)
     (r : Result (Option (K × V)) (NotInserted K V)) → PutsVacant eq hash_of key value hash first r s
     → Puts eq key value (map_of first) r (map_of s) × PutsOrKeeps eq (key, value) hash first r s.arrays

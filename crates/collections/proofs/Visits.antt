@@ -1,4 +1,4 @@
--- What a closure does that calls a function of keys, where it is called with each pair.
+-- What a closure that calls a function of keys does, if it is called with each pair.
 use Rattle.std.proofs.Common.{suc, ◌≡◌, ◌∙◌, Bool, true, false, if◌then◌else◌, List, [], ◌∷◌, length, refl, sym, ap, subst}
 use denote.Param.Always.{always_mut, mut_next}
 use Rattle.std.specs.Borrow.{Bor, MutBor}
@@ -12,7 +12,7 @@ use Rattle.collections.specs.Changes.{Calls, Retains}
 use Rattle.collections.specs.Keys.{CallsEachKey}
 use Rattle.collections.specs.Maps.{MapView}
 
--- the key of a pair is left where the answer is true
+-- the key of a pair is left if the result is true
 keys_left : {K V : Type 0} (answer : Bool) (key : K) (value : V) (kept : List (K × V)) (answers : List Bool) (keys : List K)
     → keys_of kept ≡ items_where_true answers keys
     → keys_of (if answer then (key, value) ∷ kept else kept) ≡ items_where_true (answer ∷ answers) (key ∷ keys)
@@ -33,7 +33,7 @@ module _ {S F K V : Type 0} (inside : S → F) (IsKept : S → Type 0) where
       let key : called.0.now ≡ pair.0 = λ i. (called.2 i).0 in
       (rest.0, (inside between, subst (λ k. R (inside first) k (inside between)) key one.1, rest.1))
 
-  -- the same of pairs
+  -- the same for pairs
   pub pairs_visited : (step : S → Bor K → Bor V → S → Type 0) (R : F → K × V → F → Type 0)
       → (says : (s : S) (own : Bor K) (value : Bor V) (t : S) → IsKept s → step s own value t
       → IsKept t × R (inside s) (own.now, value.now) (inside t))
@@ -46,7 +46,7 @@ module _ {S F K V : Type 0} (inside : S → F) (IsKept : S → Type 0) where
       let rest = pairs_visited step R says between pairs last one.0 called.3.2 in
       (rest.0, (inside between, subst (λ p. R (inside first) p (inside between)) called.2 one.1, rest.1))
 
-  -- and it was asked of each key
+  -- and it was called with each key
   pub keys_asked : (step : S → Bor K → MutBor V → Bool → MutBor V → S → Type 0) (R : F → K → Bool → F → Type 0)
       → (says : (s : S) (own : Bor K) (before : MutBor V) (answer : Bool) (after : MutBor V) (t : S)
       → IsKept s → step s own before answer after t
@@ -106,7 +106,7 @@ module _ {S F K V : Type 0} (inside : S → F) (IsKept : S → Type 0) where
         record { asked = all.1; kept = retained.kept; slots = retained.slots; old_slots = retained.old_slots },
       )
 
--- pairs visited, where each call keeps what is fixed from the start on
+-- pairs visited, if each call keeps what is fixed from the start on
 pub pairs_visited_from : {S F K V A : Type 0} (inside : S → F) (fixed : S → A) (step : S → Bor K → Bor V → S → Type 0)
     (R : F → K × V → F → Type 0) (first : S) (pairs : List (K × V)) (last : S) → CallsEach step first pairs last
     → (says : (s : S) (own : Bor K) (value : Bor V) (t : S) → fixed s ≡ fixed first → step s own value t
@@ -117,14 +117,14 @@ pairs_visited_from inside fixed step R first pairs last called says =
     (λ s own value t kept e. let one = says s own value t kept e in (one.0 ∙ kept, one.1)) first pairs last refl called
 
 module _ {F K : Type 0} (calls : Mut F (Bor K × Unit {0}) (Unit {0})) where
-  -- a function that may always be called may be after the calls
+  -- a function that may always be called may also be called after the calls
   pub callable_after : (first : F) (keys : List K) (last : F) → CallsEachKey calls first keys last → always_mut calls first
       → always_mut calls last
   callable_after first [] last is may = subst (always_mut calls) is may
   callable_after first (key ∷ keys) last called may =
       callable_after called.0 keys last called.2 (mut_next calls first _ _ _ _ called.1.called refl may)
 
--- a test that may always be asked may be after its answers
+-- a test that may always be called may also be called after its results
 pub askable_after : {F K : Type 0} (asks : Mut F (Bor K × Unit {0}) Bool) (first : F) (answers : List Bool) (keys : List K) (last : F)
     → ReturnsInTurn (CalledAt asks) first answers keys last → always_mut asks first → always_mut asks last
 askable_after asks first [] keys last is may = subst (always_mut asks) is may

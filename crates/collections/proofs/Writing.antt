@@ -1,4 +1,4 @@
--- A value of a cache is written where it stands.
+-- A value of a cache is written in its place.
 use Rattle.std.proofs.Common.{ℕ, Bool, true, false, Option, Some, None, ap, refl, ◌≡◌}
 use Rattle.std.specs.Borrow.{MutBor}
 use Rattle.std.specs.Cmp.{IsEquivalence}
@@ -25,7 +25,7 @@ module _ {K V H : Type 0} (eq : K → K → Bool) (laws : IsEquivalence eq) (t s
     between_stays : Stays eq (map_of t) (map_of (record t { arrays = between.arrays }))
     between_stays = arrays_stay eq laws t distinct between.arrays prepared.kept.keeps
 
-    -- where a pair was found
+    -- if a pair was found
     pub placed : (v : V) → ChangesAt wants (λ bucket at. bucket_with_value (slots_touched touches bucket at) at v) true between s
         → IsWritten touches wants eq true t s
     placed v (side, index, at, stands, is) = record {
@@ -35,7 +35,7 @@ module _ {K V H : Type 0} (eq : K → K → Bool) (laws : IsEquivalence eq) (t s
       written = (v, side, index, at, stands, ap (λ (z : TableView K V H). z.arrays) is);
     }
 
-    -- where none was
+    -- if none was found
     unplaced : s ≡ between → IsWritten touches wants eq false t s
     unplaced is = record {
       between = between.arrays;
@@ -59,7 +59,7 @@ module _ {K V H : Type 0} (eq : K → K → Bool) (laws : IsEquivalence eq) (t s
       placed touches wrote.arrays.between wrote.arrays.prepared v wrote.arrays.done,
     )
 
-    -- where nothing is lent
+    -- if nothing is lent
     pub lent_unwritten : (loan : Option (MutBor V)) → IfNone loan (IsPrepared 67 hash t s)
         → IfNone loan (IsAbsent wants (pairs_of t.arrays))
         → IfNone loan ((get_by wants (map_of t) ≡ None) × Stays eq (map_of t) (map_of s) × IsWritten touches wants eq false t s)

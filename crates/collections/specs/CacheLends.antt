@@ -10,8 +10,8 @@ use Rattle.collections.specs.contracts.hash_cache.HashCache.{the_row}
 
 module _ (K V H : RattleType) (equal : equals.Ghosts K.Denot) (hashing : key_hash.Ghosts H.Denot K.Denot)
     (cache : MutBor (TableView K.Denot V.Denot H.Denot)) where
-  -- the value of the key that is wanted is the last one written through the borrow; if there is none, no key is wanted and the map stays;
-  -- the table changes by the relation `Becomes`, which is told whether the key is present
+  -- the value of the matching key is the last one written through the borrow; if there is none, no key matches and the map stays; the table
+  -- changes by the relation `Becomes`, which takes whether the key is present
   abbrev pub LendsValue : (K.Denot → Bool) → Option (MutBor V.Denot)
       → (Bool → TableView K.Denot V.Denot H.Denot → TableView K.Denot V.Denot H.Denot → Type 0) → Fml
   LendsValue wants loan Becomes =

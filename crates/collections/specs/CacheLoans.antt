@@ -1,4 +1,4 @@
--- What a cache is once the borrow of one of its values has ended.
+-- What a cache is after the borrow of one of its values has ended.
 use Rattle.std.specs.Prelude.{⊤}
 use Rattle.std.specs.Borrow.{Fml, MutBor, RattleType, follows_so}
 use Rattle.std.specs.declared.cmp.PartialEq as equals

@@ -23,7 +23,7 @@ module _ {K V H : Type 0} (eq : K → K → Bool) where
   UpsertsOrEvicts key value old (Err back) new = (back.value ≡ (key, value)) × (get eq old key ≡ None) × Stays eq old new
 
   -- a pair is put into its home as the most recently used one, after an eviction if there is one; or the present pair is touched and
-  -- written; if the pair is returned, nothing else is done
+  -- written; if the pair is returned, nothing else happens
   abbrev pub UpsertsInOrder : K × V → ℕ → TableView K V H → Result (Upserted K V) (AllocFailed (K × V)) → TableView K V H → Type 0
   UpsertsInOrder pair hash old (Ok Added) new = PutsInHome eq pair hash None old new.arrays
   UpsertsInOrder pair hash old (Ok (Evicted k v)) new = PutsInHome eq pair hash (Some (k, v)) old new.arrays

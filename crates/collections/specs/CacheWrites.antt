@@ -11,8 +11,8 @@ use Rattle.collections.specs.Changes.{Stays}
 use Rattle.collections.specs.Maps.{map_of}
 use Rattle.collections.specs.Orders.{MovesOn}
 
--- pairs of the old array, if there is one, may move on; then the value of the wanted key, if it is present, is another one in its place,
--- and the pair is touched there if the call touches; nothing else changes
+-- pairs of the old array, if there is one, may move; then the value of the matching key, if it is present, is another one in the same
+-- place, and the pair is touched there if the call touches; nothing else changes
 pub record IsWritten {K V H : Type 0} (touches : Bool) (wants : K → Bool) (eq : K → K → Bool) (is_there : Bool) (old new : TableView K V H)
     : Type 0 where
   pub between : ArraysView K V

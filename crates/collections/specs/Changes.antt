@@ -17,7 +17,7 @@ module _ {K V H : Type 0} (eq : K → K → Bool) where
     pub minimum : new.minimum ≡ old.minimum
     pub maximum : new.maximum ≡ old.maximum
 
-  -- each key that is wanted has the value (`None`: the map hasn't the key), and each other key what it had
+  -- each matching key has the value (`None`: the map does not contain the key), and each other key has what it had
   abbrev pub Updates : MapView K V H → (K → Bool) → Option V → MapView K V H → Type 0
   Updates old wants value new = (other : K) → get eq new other ≡ cond (wants other) value (get eq old other)
 
@@ -36,7 +36,7 @@ module _ {K V H : Type 0} (eq : K → K → Bool) where
     pub updates : Updates old (eq key) (Some value) new
     pub kept : Keeps old new
 
-  -- the pair whose key is wanted is gone
+  -- the pair whose key matches is removed
   pub record Takes (old : MapView K V H) (wants : K → Bool) (pair : K × V) (new : MapView K V H) : Type 0 where
     pub same : wants pair.0 ≡ true
     pub value : get_by wants old ≡ Some pair.1
@@ -45,7 +45,7 @@ module _ {K V H : Type 0} (eq : K → K → Bool) where
     pub updates : Updates old wants None new
     pub kept : Keeps old new
 
-  -- the value of the key that is wanted is another one, and that key stays
+  -- the value of the matching key is another one, and the key stays
   pub record Replaces (old : MapView K V H) (wants : K → Bool) (pair : K × V) (later : V) (new : MapView K V H) : Type 0 where
     pub same : wants pair.0 ≡ true
     pub value : get_by wants old ≡ Some pair.1
@@ -56,7 +56,7 @@ module _ {K V H : Type 0} (eq : K → K → Bool) where
     pub updates : Updates old wants (Some later) new
     pub kept : Keeps old new
 
-  -- the value of some key that is wanted is another one
+  -- the value of some matching key is another one
   abbrev pub Holds : (K → Bool) → MapView K V H → V → V → MapView K V H → Type 0
   Holds wants old before later new = (own : K) × Replaces old wants (own, before) later new
 
@@ -72,7 +72,7 @@ module _ {K V H : Type 0} (eq : K → K → Bool) where
     pub kept : Keeps old new
 
 module _ {K V H : Type 0} (eq : K → K → Bool) (key : K) where
-  -- why a pair that wasn't inserted is returned: an equal key is present, or allocation failed and none is
+  -- why a pair that wasn't inserted is returned: an equal key is present, or allocation failed and none is present
   abbrev pub HandsBack : V → MapView K V H → NotInserted K V → Type 0
   HandsBack value map (Present k v) = (k ≡ key) × (v ≡ value) × IsSome (get eq map key)
   HandsBack value map (Memory k v) = (k ≡ key) × (v ≡ value) × (get eq map key ≡ None)
@@ -97,46 +97,46 @@ module _ {K V H : Type 0} (eq : K → K → Bool) (key : K) where
   Upserts value old (Err back) new = (back.value ≡ (key, value)) × (get eq old key ≡ None) × Stays eq old new
 
 module _ {K V H : Type 0} (eq : K → K → Bool) (wants : K → Bool) where
-  -- the pair whose key is wanted is removed and returned; `None` exactly if no key is wanted
+  -- the pair whose key matches is removed and returned; `None` exactly if no key matches
   abbrev pub Removes : MapView K V H → Option (K × V) → MapView K V H → Type 0
   Removes old (Some pair) new = Takes eq old wants pair new
   Removes old None new = (get_by wants old ≡ None) × Stays eq old new
 
-  -- the pair whose key is wanted is gone, and the result is whether there was one
+  -- the pair whose key matches is removed, and the result is whether there was one
   abbrev pub TakesOut : MapView K V H → Bool → MapView K V H → Type 0
   TakesOut old true new = (pair : K × V) × Takes eq old wants pair new
   TakesOut old false new = (get_by wants old ≡ None) × Stays eq old new
 
-  -- the pair whose key is wanted is read and then gone; the result is `None` exactly if no key is wanted
+  -- the pair whose key matches is read and then removed; the result is `None` exactly if no key matches
   abbrev pub ReadsOut : {R : Type 0} → (Bor K → Bor V → R → Type 0) → MapView K V H → Option R → MapView K V H → Type 0
   ReadsOut reads old (Some answer) new =
       (own : Bor K) × (value : Bor V) × reads own value answer × Takes eq old wants (own.now, value.now) new
   ReadsOut reads old None new = (get_by wants old ≡ None) × Stays eq old new
 
-  -- the value of the key that is wanted is lent to a call, and is what that leaves; the result is `None` exactly if no key is wanted
+  -- the value of the matching key is lent to a call, and is what the call leaves; the result is `None` exactly if no key matches
   abbrev pub Rewrites : {R : Type 0} → (Bor K → MutBor V → R → MutBor V → Type 0) → MapView K V H → Option R → MapView K V H → Type 0
   Rewrites changes old (Some answer) new = (own : Bor K) × (before : MutBor V) × (after : MutBor V) × changes own before answer after
       × Replaces eq old wants (own.now, before.now) after.now new
   Rewrites changes old None new = (get_by wants old ≡ None) × Stays eq old new
 
--- the key of a set that is wanted is removed and returned; `None` exactly if no key is wanted
+-- the matching key of a set is removed and returned; `None` exactly if no key matches
 abbrev pub SetRemoves : {K H : Type 0} → (K → K → Bool) → (K → Bool) → MapView K (Unit {0}) H → Option K → MapView K (Unit {0}) H → Type 0
 SetRemoves eq wants old (Some own) new = Takes eq old wants (own, tt) new
 SetRemoves eq wants old None new = (get_by wants old ≡ None) × Stays eq old new
 
--- a function is called with a key, and with a value lent for writing, which is another one then. No public clause cites it
+-- a function is called with a key, and with a value lent for writing, which the call may change. No public clause cites it
 abbrev pub Calls : {K V : Type 0} → (Bor K → MutBor V → MutBor V → Type 0) → K → V → V → Type 0
 Calls {K} {V} step key value later = (own : Bor K) × (before : MutBor V) × (after : MutBor V)
     × (own.now ≡ key) × (before.now ≡ value) × (after.now ≡ later) × step own before after
 
 module _ {K V H : Type 0} (eq : K → K → Bool) where
-  -- the minimum is raised by the result: what was asked for, or 0 if it would pass the maximum
+  -- the minimum is raised by the result: the requested number, or 0 if the minimum would exceed the maximum
   pub record Reserves (additional : ℕ) (old : MapView K V H) (answer : ℕ) (new : MapView K V H) : Type 0 where
     pub granted : answer ≡ (if nat_le additional (old.maximum - old.minimum) then additional else 0)
     pub stays : Stays eq (record old { minimum = old.minimum + answer }) new
 
   -- a function is called with each pair in turn, from one state to the next: those that it keeps are left, with the values last written,
-  -- and the slots stay, the old ones too
+  -- and the slots stay, also the old ones
   pub record Retains {S : Type 0} (step : S → Bor K → MutBor V → Bool → MutBor V → S → Type 0) (first : S)
       (old new : MapView K V H) (last : S) : Type 0 where
     pub asked : RetainsEach step first old.entries new.entries last
@@ -144,7 +144,7 @@ module _ {K V H : Type 0} (eq : K → K → Bool) where
     pub slots : new.slots ≡ old.slots
     pub old_slots : new.old_slots ≡ old.old_slots
 
--- an error was made of a pair that wasn't inserted because allocation may fail for it: the key, and the value made
+-- an error was made from a pair that wasn't inserted because allocation may fail for it: the key, and the value made
 pub record FailsToAdd {K V E : Type 0} (gives : AllocFailed (K × V) → E → Type 0) (IsMade : V → Type 0) (key : K) (Lacks : Type 0) (why : E)
     : Type 0 where
   pub lacks : Lacks

@@ -1,4 +1,4 @@
--- What a copy of a map has whose keys and values are clones.
+-- The contents of a copy of a map whose keys and values are clones.
 use Rattle.std.specs.Prelude.{◌≡◌, ◌^◌, Bool, true, map, min, List, None, Option}
 use Rattle.std.specs.Borrow.{Bor}
 use Rattle.std.specs.Iterator.{Drains}
@@ -21,8 +21,8 @@ pub record PutsClone {K V H : Type 0} (eq : K → K → Bool) (IsKey : K → K �
   pub puts : Puts eq old pair.0 pair.1 new
 
 module _ {K V H : Type 0} (eq : K → K → Bool) (IsKey : K → K → Type 0) (IsValue : V → V → Type 0) (IsHasher : H → H → Type 0) where
-  -- a map has clones of the pairs of another, and no other pair, so each key has a clone of the value that it has there; its
-  -- hasher is a clone, and its maximum is 2^63, which its minimum doesn't pass
+  -- a map has clones of the pairs of another, and no other pair, so each key has a clone of its value in the other map; its hasher is a
+  -- clone, and its maximum is 2^63, which its minimum doesn't exceed
   pub record IsClone (own copy : MapView K V H) : Type 0 where
     pub pairs : List (K × V)
     pub clones : AllZip (IsClonedPair eq IsKey IsValue) own.entries pairs
@@ -58,7 +58,8 @@ module _ {K H : Type 0} (eq : K → K → Bool) (IsKey : K → K → Type 0) whe
       (lent : List (Bor K)) × Drains steps first lent × PutsClones old (map (λ key. key.now) lent) new
 
 module _ {K H : Type 0} (eq : K → K → Bool) (IsKey : K → K → Type 0) (IsHasher : H → H → Type 0) where
-  -- a set that was made empty has clones of some keys of two others: those that pass the test; its hasher is a clone of the first one's
+  -- a set that was made empty contains clones of some keys of two others: those that pass the test; its hasher is a clone of the first
+  -- one's
   pub record JoinsClones (own other : MapView K (Unit {0}) H) (keys : List K) (joins : Bool → Bool → Bool)
       (made : MapView K (Unit {0}) H) : Type 0 where
     pub puts : PutsClones {H = H} eq IsKey (empty_map made.hasher) keys made

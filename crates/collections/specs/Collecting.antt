@@ -11,7 +11,7 @@ use Rattle.collections.specs.Loans.{Puts}
 use Rattle.collections.specs.Maps.{MapView, contains, get}
 use Rattle.collections.specs.Slots.{GrowsSlots}
 
--- a map as it is made: it has no pair and no slot
+-- a new map: it has no pair and no slot
 abbrev pub empty_map : {K V H : Type 0} → H → MapView K V H
 empty_map hasher = record { entries = []; hasher = hasher; minimum = 64; maximum = 2 ^ 63; slots = 0; old_slots = 0; bucket_lens = [] }
 
@@ -34,7 +34,7 @@ module _ {K V H : Type 0} (eq : K → K → Bool) where
       FoldsTo (λ before pair after. Puts eq before pair.0 pair.1 after × GrowsSlots hash_of pair.0 before after) old pairs new
 
   -- all pairs of an iterator are upserted; or if allocation fails, those before a pair that an upsert then returns, since allocation may
-  -- fail in the map of that moment, and the iterator has what follows it
+  -- fail in the map of that moment, and the iterator still has what follows it
   abbrev pub PutsFrom : {S : Type 0} → (H → K → ℕ) → (S → Option (K × V) → S → Type 0) → S → MapView K V H
       → Result (Unit {0}) (AllocFailed (K × V)) → MapView K V H → S → Type 0
   PutsFrom hash_of steps first old (Ok done) new last = (pairs : List (K × V)) × YieldsThen steps first pairs None last
@@ -49,7 +49,7 @@ module _ {K H : Type 0} (eq : K → K → Bool) where
   abbrev pub PutsKey : MapView K (Unit {0}) H → K → MapView K (Unit {0}) H → Type 0
   PutsKey old key new = MatchBool (contains eq old key) (Stays eq old new) (Adds eq old key tt new)
 
-  -- each key is inserted in turn, so a set has them and those that it had
+  -- each key is inserted in turn, so a set contains them and its earlier keys
   pub record PutsKeys (old : MapView K (Unit {0}) H) (keys : List K) (new : MapView K (Unit {0}) H) : Type 0 where
     pub between : MapView K (Unit {0}) H
     pub in_turn : FoldsTo PutsKey old keys between
@@ -62,7 +62,7 @@ module _ {K H : Type 0} (eq : K → K → Bool) where
   InsertsEach hash_of old keys new = FoldsTo (λ before key after. PutsKey before key after × GrowsSlots hash_of key before after)
       old keys new
 
-  -- the keys of an iterator are inserted, as pairs are into a map
+  -- the keys of an iterator are inserted, as pairs are inserted into a map
   abbrev pub PutsKeysFrom : {S : Type 0} → (H → K → ℕ) → (S → Option K → S → Type 0) → S → MapView K (Unit {0}) H
       → Result (Unit {0}) (AllocFailed K) → MapView K (Unit {0}) H → S → Type 0
   PutsKeysFrom hash_of steps first old (Ok done) new last = (keys : List K) × YieldsThen steps first keys None last × PutsKeys old keys new

@@ -10,7 +10,7 @@ use Rattle.collections.specs.declared.hash_map.entry.Entry.{Entry}
 use Rattle.collections.specs.declared.hash_map.entry.Entry.TheVariants.{Occupied, Vacant}
 
 module _ {K V H : Type 0} {equal : equals.Ghosts K} {hashing : key_hash.Ghosts H K} where
-  -- the key that was asked for
+  -- the requested key
   abbrev pub entry_key : Entry K V H equal hashing → K
   entry_key (Occupied entry) = entry.key
   entry_key (Vacant entry) = entry.key
@@ -20,12 +20,12 @@ module _ {K V H : Type 0} {equal : equals.Ghosts K} {hashing : key_hash.Ghosts H
   entry_map (Occupied entry) = entry.map
   entry_map (Vacant entry) = entry.map
 
-  -- whether the map has the key
+  -- whether the map contains the key
   abbrev pub is_occupied : Entry K V H equal hashing → Bool
   is_occupied (Occupied entry) = true
   is_occupied (Vacant entry) = false
 
-  -- if the map has the key, its value is what a call leaves, and the slots stay; else the map is as it was
+  -- if the map contains the key, its value is what a call leaves, and the slots stay; else the map is unchanged
   abbrev pub Modifies : (K → K → Bool) → (MutBor V → MutBor V → Type 0) → Entry K V H equal hashing → MapView K V H → Type 0
   Modifies eq changes (Occupied entry) new =
       ((own : K) × (before after : MutBor V) × changes before after

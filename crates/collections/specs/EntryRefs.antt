@@ -21,12 +21,12 @@ module _ {K V H Q : Type 0} {equal : equals.Ghosts K} {hashing : key_hash.Ghosts
   ref_map (Occupied entry) = entry.map
   ref_map (Vacant entry) = entry.map
 
-  -- whether the map has a key for which the form stands
+  -- whether the map contains a key that the form stands for
   abbrev pub is_ref_occupied : EntryRef K V H Q equal hashing form → Bool
   is_ref_occupied (Occupied entry) = true
   is_ref_occupied (Vacant entry) = false
 
-  -- if the map has such a key, its value is what a call leaves, and the slots stay; else the map is as it was
+  -- if the map contains such a key, its value is what a call leaves, and the slots stay; else the map is unchanged
   abbrev pub ModifiesRef : (K → K → Bool) → (Q → K → Bool) → (MutBor V → MutBor V → Type 0) → EntryRef K V H Q equal hashing form
       → MapView K V H → Type 0
   ModifiesRef eq stands_for changes (Occupied entry) new = ((own : K) × (before after : MutBor V) × changes before after

@@ -1,4 +1,4 @@
--- Equality of maps, as `==` on std's maps.
+-- Equality of maps, like `==` of std's maps.
 use Rattle.std.specs.Prelude.{Bool, ◌&&◌}
 use Rattle.std.specs.List.{list_all}
 use Rattle.std.specs.Map.{keys_of}
@@ -6,7 +6,7 @@ use Rattle.std.specs.Option.{option_eq}
 use Rattle.collections.specs.Maps.{MapView, get}
 
 module _ {K V H : Type 0} (eq : K → K → Bool) (same : V → V → Bool) where
-  -- whether two maps agree at a key: neither has it, or both have it beside equal values
+  -- whether two maps agree at a key: neither contains it, or both contain it with equal values
   abbrev pub agree_at : MapView K V H → MapView K V H → K → Bool
   agree_at own other key = option_eq same (get eq own key) (get eq other key)
 

@@ -1,4 +1,4 @@
--- Two maps are equal exactly if they are equal as functions. It stands here because the impls of `PartialEq` cite it.
+-- Two maps are equal exactly if they are equal as functions. This file is here because the impls of `PartialEq` cite it.
 use Rattle.std.proofs.Common.{◌≡◌, ◌&&◌, ◌∙◌, ◌⊎◌, inl, inr, Bool, true, false, cond, Option, Some, None, List, [], ◌∷◌, refl, sym, ap}
 use Rattle.std.specs.Cmp.{IsEquivalence, IsPartialEquivalence, equiv, first_so, partial_equiv_from_equiv, second_so}
 use Rattle.std.specs.HashMap.Eq.{lookup_congr}
@@ -9,7 +9,7 @@ use Rattle.std.proofs.lemmas.Bool.{and_from, true≢false}
 use Rattle.collections.specs.Equality.{agree_at, is_within, map_eq}
 use Rattle.collections.specs.Maps.{MapView, get}
 
--- a test that passes at each passes everywhere
+-- a test that passes for everything passes for a list
 passes_all : {X : Type 0} (test : X → Bool) → ((x : X) → test x ≡ true) → (xs : List X) → list_all test xs ≡ true
 passes_all test each [] = refl
 passes_all test each (x ∷ xs) = and_from (test x) (list_all test xs) (each x) (passes_all test each xs)
@@ -45,7 +45,7 @@ module _ {V : Type 0} (same : V → V → Bool) where
   option_eq_joined through (Some u) (Some v) None one two = two
   option_eq_joined through (Some u) (Some v) (Some w) one two = through u v w one two
 
--- a map is equal to itself where each value is
+-- a map is equal to itself if each value is
 pub map_eq_itself : {K V H : Type 0} (eq : K → K → Bool) (same : V → V → Bool) → ((v : V) → same v v ≡ true)
     → (m : MapView K V H) → map_eq eq same m m ≡ true
 map_eq_itself {K} {V} eq same itself m = and_from (is_within eq same m m) (is_within eq same m m) all all

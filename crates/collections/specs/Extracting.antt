@@ -10,7 +10,7 @@ use Rattle.collections.specs.declared.extracting.Extraction.{Extraction}
 use Rattle.collections.specs.declared.extracting.PutBack as put_back
 
 module _ {K V H F : Type 0} {puts : put_back.Ghosts (ExtractView K V) (MapView K V H)} where
-  -- the map or the set, once the iterator ends
+  -- the map or the set after the iterator ends
   abbrev pub extract_map : Extraction (MapView K V H) F (ExtractView K V) puts → MapView K V H
   extract_map it = map_of (record { hasher = it.from.now.hasher; arrays = it.taken.arrays })
 
@@ -18,7 +18,7 @@ module _ {K V H F : Type 0} {puts : put_back.Ghosts (ExtractView K V) (MapView K
   abbrev pub extract_left : Extraction (MapView K V H) F (ExtractView K V) puts → List (K × V)
   extract_left it = it.taken.left
 
--- what else stays: the hasher, the capacities and the slots, the old ones too; and no two keys are equal
+-- what else stays: the hasher, the capacities and the slots, also the old ones; and no two keys are equal
 pub record KeepsSlots {K V H : Type 0} (eq : K → K → Bool) (old new : MapView K V H) : Type 0 where
   pub kept : Keeps eq old new
   pub slots : new.slots ≡ old.slots

@@ -14,24 +14,24 @@ module _ {F K : Type 0} (calls : Mut F (Bor K × Unit {0}) (Unit {0})) where
   CallsEachKey first keys last = FoldsTo (λ state key next. CalledAt calls state key tt next) first keys last
 
 module _ {K V H : Type 0} (eq : K → K → Bool) where
-  -- the keys of a map that another has too
+  -- the keys of a map that another contains too
   abbrev pub keys_within : MapView K V H → MapView K V H → List K
   keys_within own other = filter (contains eq other) (keys_of own.entries)
 
-  -- the keys of a map that another hasn't
+  -- the keys of a map that another does not contain
   abbrev pub keys_outside : MapView K V H → MapView K V H → List K
   keys_outside own other = filter (λ key. not (contains eq other key)) (keys_of own.entries)
 
-  -- the keys of a map, and then those of another that it hasn't
+  -- the keys of a map, and then those of another that it does not contain
   abbrev pub keys_of_either : MapView K V H → MapView K V H → List K
   keys_of_either own other = keys_of own.entries ++ keys_outside other own
 
-  -- the keys of a map that another hasn't, and then those of the other that it hasn't
+  -- the keys of a map that another does not contain, and then those of the other that it does not contain
   abbrev pub keys_of_one : MapView K V H → MapView K V H → List K
   keys_of_one own other = keys_outside own other ++ keys_outside other own
 
   -- a function is called with each key in turn, from one state to the next: those for which it returns true are left, in their order, and
-  -- the slots stay, the old ones too
+  -- the slots stay, also the old ones
   pub record RetainsKeys {F : Type 0} (asks : Mut F (Bor K × Unit {0}) Bool) (first : F) (old new : MapView K V H) (last : F) : Type 0 where
     pub answers : List Bool
     pub one_each : length answers ≡ length (keys_of old.entries)

@@ -1,4 +1,4 @@
--- What contracts of the collections say.
+-- What contracts of the collections cite.
 pub mod Maps
 pub mod Changes
 pub mod Crowding

@@ -9,28 +9,28 @@ use Rattle.collections.specs.Crowding.{LacksRoom}
 use Rattle.collections.specs.Slots.{GrowsSlots, KeepsSlots}
 use Rattle.collections.specs.contracts.hash_map.HashMap.{the_row}
 
--- the value stands under the key: a pair more, or with the key that is present
+-- the value is under the key: one more pair, or with the key that is present
 abbrev pub Puts : {K V H : Type 0} → (K → K → Bool) → MapView K V H → K → V → MapView K V H → Type 0
 Puts {K} {V} {H} eq old key value new =
     MatchOption (get eq old key) (Adds eq old key value new) (λ before. (own : K) × Replaces eq old (eq key) (own, before) value new)
 
 module _ {K V H : Type 0} (eq : K → K → Bool) (old : MapView K V H) (wants : K → Bool) (value : V) (new : MapView K V H) where
-  -- a pair more, whose key is one that is wanted
+  -- one more pair, whose key matches
   pub record AddsWanted : Type 0 where
     pub key : K
     pub same : wants key ≡ true
     pub adds : Adds eq old key value new
     pub updates : Updates eq old wants (Some value) new
 
-  -- the value stands under a key that is wanted: a pair more, or with the key that is present
+  -- the value is under a matching key: one more pair, or with the key that is present
   pub record PutsWanted : Type 0 where
     pub cases : MatchOption (get_by wants old) AddsWanted (λ before. (own : K) × Replaces eq old wants (own, before) value new)
     pub updates : Updates eq old wants (Some value) new
 
 module _ (K V H : RattleType) (equal : equals.Ghosts K.Denot) (hashing : key_hash.Ghosts H.Denot K.Denot)
     (map : MutBor (MapView K.Denot V.Denot H.Denot)) where
-  -- the value of the key that is wanted is the last one written through the borrow; if there is none, no key is wanted and nothing changes;
-  -- the slots stay in either case
+  -- the value of the matching key is the last one written through the borrow; if there is none, no key matches and nothing changes; the
+  -- slots stay in either case
   abbrev pub LendsValue : (K.Denot → Bool) → Option (MutBor V.Denot) → Fml
   LendsValue wants loan =
       LendsSo (the_row K V H (record {}) equal hashing) V map loan
@@ -38,12 +38,12 @@ module _ (K V H : RattleType) (equal : equals.Ghosts K.Denot) (hashing : key_has
       × KeepsSlots map.now new))
       (λ new. IfNone loan ((get_by wants map.now ≡ None) × Stays equal.eq map.now new × KeepsSlots map.now new))
 
-  -- the value of the key that is wanted is the last one written through the borrow
+  -- the value of the matching key is the last one written through the borrow
   abbrev pub LendsThere : (K.Denot → Bool) → MutBor V.Denot → Fml
   LendsThere wants lent =
       Lends (the_row K V H (record {}) equal hashing) V map lent (map_with_value wants map.now)
 
-  -- a pair more, with the last value written through the borrow; if nothing is borrowed, nothing changes, and allocation may fail; the
+  -- one more pair, with the last value written through the borrow; if nothing is borrowed, nothing changes, and allocation may fail; the
   -- slots are those that an insertion leaves
   abbrev pub LendsAdded : {E : Type 0} → K.Denot → Result (MutBor V.Denot) E → Fml
   LendsAdded key loan =
@@ -51,7 +51,7 @@ module _ (K V H : RattleType) (equal : equals.Ghosts K.Denot) (hashing : key_has
       (λ new value. Adds equal.eq map.now key value new × GrowsSlots hashing.hash_of key map.now new)
       (λ new. Stays equal.eq map.now new × LacksRoom hashing.hash_of key map.now × GrowsSlots hashing.hash_of key map.now new)
 
-  -- the same for a key that is wanted; if it isn't, nothing is borrowed and nothing changes
+  -- the same for a matching key; if it doesn't match, nothing is borrowed and nothing changes
   abbrev pub LendsWanted : {E : Type 0} → (K.Denot → Bool) → K.Denot → Result (MutBor V.Denot) E → Fml
   LendsWanted wants key loan =
       LendsSoOk (the_row K V H (record {}) equal hashing) V map loan
@@ -59,8 +59,8 @@ module _ (K V H : RattleType) (equal : equals.Ghosts K.Denot) (hashing : key_has
       (λ new. Stays equal.eq map.now new × (wants key ≡ true → LacksRoom hashing.hash_of key map.now)
       × GrowsSlots hashing.hash_of key map.now new)
 
-  -- the value under the key is the last one written through the borrow, whether the map had the key or not; if nothing is borrowed, nothing
-  -- changes, and allocation may fail
+  -- the value under the key is the last one written through the borrow, whether or not the map contained the key; if nothing is borrowed,
+  -- nothing changes, and allocation may fail
   abbrev pub LendsPut : {E : Type 0} → K.Denot → Result (MutBor V.Denot) E → Fml
   LendsPut key loan =
       LendsSoOk (the_row K V H (record {}) equal hashing) V map loan
@@ -74,31 +74,31 @@ module _ (K V H : RattleType) (equal : equals.Ghosts K.Denot) (hashing : key_has
       (λ new value. Puts equal.eq map.now key value new × GrowsSlots hashing.hash_of key map.now new)
       (λ new. Stays equal.eq map.now new × GrowsSlots hashing.hash_of key map.now new)
 
-  -- a pair more; if nothing is borrowed, nothing changes, and the cause may be another one than allocation failure
+  -- one more pair; if nothing is borrowed, nothing changes, and the cause may be another one than allocation failure
   abbrev pub LendsTriedNew : {E : Type 0} → K.Denot → Result (MutBor V.Denot) E → Fml
   LendsTriedNew key loan =
       LendsSoOk (the_row K V H (record {}) equal hashing) V map loan
       (λ new value. Adds equal.eq map.now key value new × GrowsSlots hashing.hash_of key map.now new)
       (λ new. Stays equal.eq map.now new × GrowsSlots hashing.hash_of key map.now new)
 
-  -- no pair of a key that is wanted is inserted: no such key could be made, or allocation may fail for it
+  -- no pair with a matching key is inserted: no such key could be made, or allocation may fail for it
   abbrev pub LacksPair : Type 0 → (K.Denot → Bool) → Type 0
   LacksPair MayLackKey wants = MayLackKey ⊎ ((key : K.Denot) × (wants key ≡ true) × LacksRoom hashing.hash_of key map.now)
 
-  -- the slots stay, or are those that an insertion of a key that is wanted leaves
+  -- the slots stay, or are those that an insertion of a matching key leaves
   abbrev pub GrowsWanted : (K.Denot → Bool) → MapView K.Denot V.Denot H.Denot → Type 0
   GrowsWanted wants new = KeepsSlots map.now new
       ⊎ ((key : K.Denot) × (wants key ≡ true) × GrowsSlots hashing.hash_of key map.now new)
 
-  -- a pair more, whose key is one that is wanted, with the last value written through the borrow; if nothing is borrowed, nothing changes,
-  -- and no key could be made or allocation may fail
+  -- one more pair, whose key matches, with the last value written through the borrow; if nothing is borrowed, nothing changes, and no key
+  -- could be made or allocation may fail
   abbrev pub LendsMade : {E : Type 0} → Type 0 → (K.Denot → Bool) → Result (MutBor V.Denot) E → Fml
   LendsMade MayLackKey wants loan =
       LendsSoOk (the_row K V H (record {}) equal hashing) V map loan
       (λ new value. AddsWanted equal.eq map.now wants value new × GrowsWanted wants new)
       (λ new. Stays equal.eq map.now new × LacksPair MayLackKey wants × GrowsWanted wants new)
 
-  -- the value under a key that is wanted is the last one written through the borrow, whether the map had one or not; if nothing is
+  -- the value under a matching key is the last one written through the borrow, whether or not the map contained one; if nothing is
   -- borrowed, nothing changes, and no key could be made or allocation may fail
   abbrev pub LendsPutWanted : {E : Type 0} → Type 0 → (K.Denot → Bool) → Result (MutBor V.Denot) E → Fml
   LendsPutWanted MayLackKey wants loan =

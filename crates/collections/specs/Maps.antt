@@ -6,8 +6,8 @@ use Rattle.bucket_slots.specs.BucketView.{pairs_in}
 use Rattle.bucket_table.specs.Views.ArraysView.{TableView, pairs_of}
 
 -- the pairs, in an order that any call may change, the hasher, the least number of slots that a shrink leaves and the greatest that a
--- growth makes, the number of slots, the number of old slots, whose pairs have still to move to these, and how many pairs each bucket
--- has, in the order of the pairs: first the buckets of these slots, then those of the old ones
+-- growth makes, the number of slots, the number of old slots, whose pairs have yet to move to these, and the number of pairs in each
+-- bucket, in the order of the pairs: first the buckets of these slots, then those of the old ones
 pub record MapView (K V H : Type 0) : Type 0 where
   pub entries : List (K × V)
   pub hasher : H
@@ -30,15 +30,15 @@ map_of table = record {
 }
 
 module _ {K V H : Type 0} where
-  -- how many pairs
+  -- the number of pairs
   abbrev pub map_len : MapView K V H → ℕ
   map_len m = length m.entries
 
-  -- how many pairs stand before those of a bucket
+  -- how many pairs come before those of a bucket
   abbrev pub pairs_before : MapView K V H → ℕ → ℕ
   pairs_before m index = sum (take index m.bucket_lens)
 
-  -- the pairs of a bucket; none past the last
+  -- the pairs of a bucket; none past the last bucket
   abbrev pub pairs_in_bucket : MapView K V H → ℕ → List (K × V)
   pairs_in_bucket m index = take (slice_index_or m.bucket_lens index 0) (drop (pairs_before m index) m.entries)
 
@@ -62,10 +62,10 @@ module _ {K V H : Type 0} where
     abbrev pub IsUnique : MapView K V H → Type 0
     IsUnique m = IsDistinct eq (keys_of m.entries)
 
-    -- the map as a function: the value at a key
+    -- the map as a function: the value of a key
     abbrev pub get : MapView K V H → K → Option V
     get m key = lookup (eq key) m.entries
 
-    -- whether it has a key
+    -- whether it contains a key
     abbrev pub contains : MapView K V H → K → Bool
     contains m key = is_some (get m key)

@@ -7,13 +7,13 @@ use Rattle.bucket_table.specs.Map.LookingUp.{IsThere}
 use Rattle.bucket_table.specs.Rehash.Relocation.{marks_among}
 use Rattle.bucket_table.specs.Views.ArraysView.{ArraysView, marks_of, pairs_of}
 
--- these tombstones are earlier ones, with all those of the current array, and with all there were if there is no old array
+-- these tombstones are earlier ones, including all those of the current array, and all there were if there is no old array
 pub record AreEarlierMarks {K V : Type 0} (old : ArraysView K V) (marks : List ((K × V) × ℕ)) : Type 0 where
   pub earlier : HasNoNewMark (marks_of old) marks
   pub current : (mark : (K × V) × ℕ) → Contains (marks_among old.current) mark → Contains marks mark
   pub all : length old.linked ≡ 0 → marks ≡ marks_of old
 
--- the pair whose key is wanted is a tombstone of epoch 0, beside earlier tombstones
+-- the pair whose key matches is a tombstone of epoch 0, besides earlier tombstones
 pub record AddsMark {K V : Type 0} (wants : K → Bool) (old new : ArraysView K V) : Type 0 where
   pub pair : K × V
   pub there : IsThere wants (pairs_of old) pair
@@ -29,7 +29,7 @@ LeavesNoArray arrays = (arrays.minimum ≡ 0) × (arrays.current ++ arrays.linke
 abbrev pub KeepsMarks : {K V : Type 0} → ArraysView K V → ArraysView K V → Type 0
 KeepsMarks old new = (marks_of new ≡ marks_of old) ⊎ LeavesNoArray new
 
--- a pair that is removed becomes a tombstone, or no array is left; if none is removed, the tombstones are earlier ones
+-- a removed pair becomes a tombstone, or no array is left; if none is removed, the tombstones are earlier ones
 abbrev pub MarksRemoved : {K V : Type 0} → (K → Bool) → Bool → ArraysView K V → ArraysView K V → Type 0
 MarksRemoved wants true old new = AddsMark wants old new ⊎ LeavesNoArray new
 MarksRemoved wants false old new = AreEarlierMarks old (marks_of new)

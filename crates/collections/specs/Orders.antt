@@ -23,9 +23,9 @@ use Rattle.bucket_table.specs.declared.hash_table.NotInserted.{NotInserted}
 use Rattle.collections.specs.Changes.{Stays}
 use Rattle.collections.specs.Maps.{map_of}
 
--- pairs of the old array, if there is one, have moved on, bucket after bucket, with their LRU order: no pair is lost, none of the current
--- array leaves its slot, and each bucket lists what it listed, and then the listed pairs that came to its own slots, in their order; the
--- pairs of a bucket went in the order of its slots, so that own slots go to the first of them
+-- pairs of the old array, if there is one, have moved, bucket after bucket, with their LRU order: no pair is lost, none of the current
+-- array leaves its slot, and each bucket lists what it listed, and then the listed pairs that moved to its own slots, in their order; the
+-- pairs of a bucket moved in the order of its slots, so that the first of them are in own slots
 pub record MovesOn {K V : Type 0} (old new : ArraysView K V) : Type 0 where
   pub alone : length old.linked ≡ 0 → new ≡ old
   pub pairs : IsPermutation (pairs_of old) (pairs_of new)
@@ -45,8 +45,8 @@ pub record MovesOn {K V : Type 0} (old new : ArraysView K V) : Type 0 where
       ++ filter (λ pair. list_any (λ own. eq pair.0 own.0) (live_pairs (bucket_at new.current j).own)) came
   pub in_order : (i : ℕ) → Contains moved i → WentInOrder new.current (pairs_in (bucket_at old.linked i))
 
--- the map stays; pairs of the old array, if there is one, may move on; then the pair whose key is wanted, if it is present, is touched in
--- its place, and nothing else changes
+-- the map stays; pairs of the old array, if there is one, may move; then the pair whose key matches, if it is present, is touched in its
+-- place, and nothing else changes
 pub record IsTouched {K V H : Type 0} (eq : K → K → Bool) (wants : K → Bool) (is_there : Bool) (old new : TableView K V H) : Type 0 where
   pub map : Stays eq (map_of old) (map_of new)
   pub between : ArraysView K V
@@ -54,18 +54,18 @@ pub record IsTouched {K V H : Type 0} (eq : K → K → Bool) (wants : K → Boo
   pub touched : MatchBool is_there ((side : Side) × (index : ℕ) × (at : Place) × StandsAt wants between side index at
       × (new.arrays ≡ arrays_with between side index (slots_touched true (bucket_on between side index) at))) (new.arrays ≡ between)
 
--- one bucket has changed and nothing else, or its array, which was the only one, is the old one now
+-- one bucket has changed and nothing else, or its array, which was the only one, is now the old one
 abbrev pub ReplacesBucket : {K V : Type 0} → Side → ℕ → BucketView K V → ArraysView K V → ArraysView K V → Type 0
 ReplacesBucket side index bucket old new = (new ≡ arrays_with old side index bucket)
     ⊎ ((length old.linked ≡ 0) × (new.linked ≡ slice_set old.current index bucket))
 
--- the slots were doubled for a home with as many pairs as own slots: the array is the old one now, and pairs of it have moved on
+-- the slots were doubled for a home with as many pairs as own slots: the array is now the old one, and pairs of it have moved
 pub record IsSplit {K V : Type 0} (hash : ℕ) (old new : ArraysView K V) : Type 0 where
   pub doubled : ArraysView K V
   pub splits : SplitsHome hash old doubled
   pub carried : MovesOn doubled new
 
--- the map stays; pairs of the old array, if there is one, may move on, and the first array is made if there is none; then the slots may be
+-- the map stays; pairs of the old array, if there is one, may move, and the first array is made if there is none; then the slots may be
 -- doubled for the home of a key's hash; then a pair is put into that home as the most recently used one, after an eviction if there is one
 pub record PutsInHome {K V H : Type 0} (eq : K → K → Bool) (pair : K × V) (hash : ℕ) (gone : Option (K × V)) (old : TableView K V H)
     (new : ArraysView K V) : Type 0 where
@@ -81,7 +81,7 @@ pub record PutsInHome {K V H : Type 0} (eq : K → K → Bool) (pair : K × V) (
   pub goes : Goes (bucket_at between.current index) gone
   pub put : ReplacesBucket Current index (slots_put true (slots_left (bucket_at between.current index) gone) pair (hash % 256)) between new
 
--- pairs of the old array may move on, and a single array stays; then that may become the old one
+-- pairs of the old array may move, and a single array stays; then that may become the old one
 pub record LeavesArray {K V : Type 0} (old new : ArraysView K V) : Type 0 where
   pub between : ArraysView K V
   pub carried : 0 < length old.linked → MovesOn old between
@@ -94,15 +94,15 @@ abbrev pub PutsOrKeeps : {K V H : Type 0} → (K → K → Bool) → K × V → 
 PutsOrKeeps eq pair hash old (Ok gone) new = PutsInHome eq pair hash gone old new
 PutsOrKeeps eq pair hash old (Err why) new = LeavesArray old.arrays new
 
--- the pair whose key is wanted leaves its place, if it is present, and nothing else of its array changes; or no array is left, if the
--- minimum is 0
+-- the pair whose key matches leaves its place, if it is present, and nothing else of its array changes; or no array is left, if the minimum
+-- is 0
 abbrev pub Leaves : {K V : Type 0} → (K → Bool) → Bool → ArraysView K V → ArraysView K V → Type 0
 Leaves wants true old new = ((new.minimum ≡ 0) × (new.current ++ new.linked ≡ []))
     ⊎ ((side : Side) × (index : ℕ) × (at : Place) × StandsAt wants old side index at
     × ReplacesBucket side index (slots_without (bucket_on old side index) at) old new)
 Leaves wants false old new = new ≡ old
 
--- pairs of the old array, if there is one, may move on; then the pair leaves its place
+-- pairs of the old array, if there is one, may move; then the pair leaves its place
 pub record LeavesPlace {K V : Type 0} (wants : K → Bool) (is_there : Bool) (old new : ArraysView K V) : Type 0 where
   pub between : ArraysView K V
   pub carried : MovesOn old between

@@ -5,8 +5,8 @@ use Rattle.bucket_table.specs.Resize.Renewing.{Renews}
 use Rattle.bucket_table.specs.Views.ArraysView.{TableView}
 use Rattle.collections.specs.Maps.{IsUnique, get, map_of}
 
--- the pairs were inserted, one after another, into a new array of the size for so many slots; each key has the value that it had, or is
--- gone
+-- the pairs were inserted, one after another, into a new array of the size for a number of slots; each key has the value that it had, or is
+-- evicted
 pub record ResizesTo {K V H : Type 0} (eq : K → K → Bool) (hash : K → ℕ) (slots : ℕ) (old new : TableView K V H) : Type 0 where
   pub size : ℕ
   pub size_is : IsLeastPowerOfTwo (min (max slots 64) (2 ^ 63)) size

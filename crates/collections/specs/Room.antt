@@ -1,4 +1,4 @@
--- That the table of a collection fits in memory: a caller that is generic in the hasher has to prove it when it makes one.
+-- The table of a collection fits in memory: a caller that is generic in the hasher has to prove it when it makes a collection.
 use Rattle.std.specs.Prelude.{◌≡◌, false, []}
 use Rattle.std.specs.Borrow.{RattleType}
 use Rattle.std.specs.Mem.{FitsInMemory}

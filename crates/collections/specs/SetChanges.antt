@@ -12,13 +12,13 @@ module _ {K H : Type 0} (eq : K → K → Bool) (key : K) where
   SetAdds old (Ok false) new = IsSome (get eq old key) × Stays eq old new
   SetAdds old (Err back) new = (back.value ≡ key) × (get eq old key ≡ None) × Stays eq old new
 
-  -- the key is inserted in the place of the equal one, which is returned; if allocation fails, the key itself is returned and is absent
+  -- the key replaces the equal one, which is returned, or is inserted; if allocation fails, the key itself is returned and is absent
   abbrev pub SetReplaces : MapView K (Unit {0}) H → Result (Option K) (AllocFailed K) → MapView K (Unit {0}) H → Type 0
   SetReplaces old (Ok None) new = Adds eq old key tt new
   SetReplaces old (Ok (Some own)) new = ReplacesKey eq old (own, tt) key new
   SetReplaces old (Err back) new = (back.value ≡ key) × (get eq old key ≡ None) × Stays eq old new
 
-  -- the key is put in the place of the equal one, which is returned; if there is none, the key itself is returned
+  -- the key replaces the equal one, which is returned; if there is none, the key itself is returned
   abbrev pub SwapsKey : MapView K (Unit {0}) H → Result K K → MapView K (Unit {0}) H → Type 0
   SwapsKey old (Ok own) new = ReplacesKey eq old (own, tt) key new
   SwapsKey old (Err back) new = (back ≡ key) × (get eq old key ≡ None) × Stays eq old new

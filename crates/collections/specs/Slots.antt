@@ -5,7 +5,7 @@ use Rattle.collections.specs.Crowding.{HasAtHome}
 use Rattle.collections.specs.Maps.{MapView}
 
 module _ {K V H : Type 0} where
-  -- the slots stay, and the old ones stay or are gone
+  -- the slots stay, and the old ones stay or are dropped
   pub record KeepsSlots (old new : MapView K V H) : Type 0 where
     pub slots : new.slots ≡ old.slots
     pub old_slots : (new.old_slots ≡ old.old_slots) ⊎ (new.old_slots ≡ 0)
@@ -16,24 +16,24 @@ module _ {K V H : Type 0} where
     pub slots : IsLengthFor old.minimum (new.slots / 32)
     pub old_slots : new.old_slots ≡ 0
 
-  -- the slots are the old ones now, and a key's bucket among them was the home of 31 pairs
+  -- the slots are now the old ones, and a key's bucket among them was the home of 31 pairs
   pub record ChangesSlots (hash : K → ℕ) (key : K) (old new : MapView K V H) : Type 0 where
     pub crowded : HasAtHome 31 hash key old.slots old.entries
     pub old_slots : new.old_slots ≡ old.slots
     pub slots : 0 < new.slots
 
-  -- the slots were more than the minimum, and fewer than an eighth of them would be live; they are the old ones now, or there are none
+  -- the slots were more than the minimum, and fewer than an eighth of them would be live; they are now the old ones, or there are none
   pub record ShrinksSlots (old new : MapView K V H) : Type 0 where
     pub more : old.minimum < old.slots
     pub few : 8 * length new.entries < old.slots
     pub went : (new.old_slots ≡ old.slots) ⊎ ((new.slots ≡ 0) × (new.old_slots ≡ 0))
 
-  -- a removal keeps the slots, or where it took a pair out they may shrink; a caller that needs this definition unfolds it
+  -- a removal keeps the slots, or they may shrink if it took a pair out; a caller that needs this definition unfolds it
   unfoldable pub LosesSlots : Bool → MapView K V H → MapView K V H → Type 0
   LosesSlots true old new = KeepsSlots old new ⊎ ShrinksSlots old new
   LosesSlots false old new = KeepsSlots old new
 
-  -- an insertion of a key keeps the slots, or makes the first, or the key's bucket is nearly full and they are the old ones now; a caller
-  -- that needs this definition unfolds it
+  -- an insertion of a key keeps the slots, or makes the first ones, or the key's bucket is nearly full and they are now the old ones; a
+  -- caller that needs this definition unfolds it
   unfoldable pub GrowsSlots : (H → K → ℕ) → K → MapView K V H → MapView K V H → Type 0
   GrowsSlots hash_of key old new = KeepsSlots old new ⊎ (MakesSlots old new ⊎ ChangesSlots (hash_of old.hasher) key old new)

@@ -1,4 +1,4 @@
--- The keys that a map or a set has itself, and not only keys that are equal to them.
+-- The keys that a map or a set itself stores, not only keys that are equal to them.
 use Rattle.std.specs.Prelude.{◌≡◌, Bool, true, List, ◌∷◌, Option, Some}
 use Rattle.std.specs.List.Sorted.{IsPermutation}
 use Rattle.std.specs.Map.{lookup_key}
@@ -10,7 +10,7 @@ module _ {K V H : Type 0} where
   abbrev pub key_by : (K → Bool) → MapView K V H → Option K
   key_by test m = lookup_key test m.entries
 
-  -- another key is in the place of an equal one, with the same value, and each key has the value that it had
+  -- another key replaces an equal one, with the same value, and each key has the value that it had
   pub record ReplacesKey (eq : K → K → Bool) (old : MapView K V H) (pair : K × V) (later : K) (new : MapView K V H) : Type 0 where
     pub same : eq pair.0 later ≡ true
     pub value : get eq old later ≡ Some pair.1

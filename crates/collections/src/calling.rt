@@ -1,4 +1,4 @@
-//! Functions of a pair that a table lends: a call of one, and that one may always be called.
+//! Calls of a function with a pair that a table lends, and the fact that it may always be called.
 ghost use Rattle.std.specs.Prelude.{◌≡◌, true};
 ghost use Rattle.collections.specs.Changes.{Calls};
 
@@ -12,7 +12,7 @@ pub(crate) fn called_with<K, V, F: FnMut(&K, &mut V)>(f: &mut F, key: &K, value:
     true
 }
 
-/// States that a function of values lent for writing may always be called. Does nothing at run
+/// States that a function of a key and a mutable value may always be called. Does nothing at run
 /// time.
 pub(crate) fn learn_asks<K, V, F: FnMut(&K, &mut V) -> bool>(f: &F)
     requires callable { F.IsAlwaysCallable f.now }

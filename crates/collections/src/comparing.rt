@@ -1,4 +1,4 @@
-//! Equality of the maps that two tables are.
+//! Equality of two tables as maps.
 ghost use Rattle.std.specs.Prelude.{◌≡◌, Some};
 ghost use Rattle.std.specs.Option.{option_eq};
 ghost use Rattle.collections.specs.Equality.{is_within, map_eq};
@@ -9,9 +9,9 @@ use bucket_slots::lru::LruList;
 use bucket_table::hash_table::HashTable;
 use bucket_table::key_hash::KeyHash;
 
-/// Tests whether two tables have the same keys, beside equal values. Tombstones don't count.
+/// Returns `true` if two tables contain the same keys with equal values. Tombstones don't count.
 ///
-/// Stops at the first difference. Moves and touches nothing. O(slots of both) expected.
+/// Stops at the first difference. Moves and touches no pairs. O(slots of both) expected.
 pub(crate) fn are_equal<K: Eq, V: PartialEq, H: KeyHash<K>, L: LruList, const TYPE: u8>(
     own: &HashTable<K, V, H, L, TYPE>,
     other: &HashTable<K, V, H, L, TYPE>,
@@ -21,7 +21,7 @@ pub(crate) fn are_equal<K: Eq, V: PartialEq, H: KeyHash<K>, L: LruList, const TY
     has_within(own, other) && has_within(other, own)
 }
 
-/// Tests whether another table has each key of a table, beside an equal value.
+/// Returns `true` if another table contains each key of a table, with an equal value.
 fn has_within<K: Eq, V: PartialEq, H: KeyHash<K>, L: LruList, const TYPE: u8>(
     own: &HashTable<K, V, H, L, TYPE>,
     other: &HashTable<K, V, H, L, TYPE>,
@@ -37,7 +37,7 @@ fn has_within<K: Eq, V: PartialEq, H: KeyHash<K>, L: LruList, const TYPE: u8>(
     )
 }
 
-/// Tests whether a table has an equal value under a key.
+/// Returns `true` if a table contains a key, with an equal value.
 fn has_value<K: Eq, V: PartialEq, H: KeyHash<K>, L: LruList, const TYPE: u8>(
     table: &HashTable<K, V, H, L, TYPE>,
     key: &K,

@@ -1,6 +1,6 @@
-//! The hashers of collections that name none: std's default, and std's with keys drawn at random.
+//! The hashers of collections whose types name none: std's default, and std's with a random seed.
 pub use bucket_table::key_hash::{KeyHash, StdHash};
 pub use std::hash::{BuildHasherDefault, FoldHasher, RandomState};
 
-/// Hashes keys by std's default, the hasher of a collection whose type names none. Own.
+/// std's default hasher, which a collection uses if its type names none.
 pub type DefaultHash = StdHash<BuildHasherDefault<FoldHasher>>;

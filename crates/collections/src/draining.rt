@@ -1,5 +1,5 @@
-//! The iterators over the keys and the values of a collection by value: each step takes out a pair
-//! of the table, returns one half, and drops the other.
+//! Iterators over the keys or the values of a collection by value: each step takes a pair out of
+//! the table, returns one half, and drops the other.
 ghost use Rattle.std.specs.Iterator.{YieldsFirst, item_count};
 
 use bucket_slots::lru::LruList;
@@ -7,7 +7,7 @@ use bucket_table::hash_table::TableDrain;
 use std::iter::FusedIterator;
 use std::marker::Model;
 
-/// The keys by value that are left.
+/// An iterator over the keys by value.
 #[derive(Drop)]
 pub struct DrainKeys<K, V, L: LruList, const TYPE: u8> {
     pub(crate) inner: TableDrain<K, V, L, TYPE>,
@@ -36,7 +36,7 @@ impl<K: Drop, V: Drop, L: LruList + Drop, const TYPE: u8> Iterator for DrainKeys
         }
     }
 
-    /// As that of the pairs. O(1).
+    /// The pairs' size hint. O(1).
     fn size_hint(&self) -> (usize, Option<usize>) {
         self.inner.size_hint()
     }
@@ -45,7 +45,7 @@ impl<K: Drop, V: Drop, L: LruList + Drop, const TYPE: u8> Iterator for DrainKeys
 impl<K: Drop, V: Drop, L: LruList + Drop, const TYPE: u8> FusedIterator
     for DrainKeys<K, V, L, TYPE> {}
 
-/// The values by value that are left.
+/// An iterator over the values by value.
 #[derive(Drop)]
 pub struct DrainValues<K, V, L: LruList, const TYPE: u8> {
     pub(crate) inner: TableDrain<K, V, L, TYPE>,
@@ -74,7 +74,7 @@ impl<K: Drop, V: Drop, L: LruList + Drop, const TYPE: u8> Iterator for DrainValu
         }
     }
 
-    /// As that of the pairs. O(1).
+    /// The pairs' size hint. O(1).
     fn size_hint(&self) -> (usize, Option<usize>) {
         self.inner.size_hint()
     }

@@ -2,12 +2,12 @@
 //! back when it ends.
 ghost use Rattle.std.specs.Prelude.{◌≡◌};
 
-/// What was taken out of a collection, and is put back into it. Own.
+/// A part that was taken out of a collection and is put back into it.
 pub trait PutBack<M> {
-    /// That it may be put back into the collection.
+    /// States that it may be put back into the collection.
     ghost fits: { M → Self → Type 0 };
 
-    /// The collection, once it was put back.
+    /// The collection after it is put back.
     ghost after: { M → Self → M };
 
     /// Puts it back.
@@ -17,7 +17,7 @@ pub trait PutBack<M> {
         ensures still { ∥ fits to.new self.old ∥₁ };
 }
 
-/// A collection from which an iterator removes what a function picks. std: `ExtractIf`.
+/// An iterator that removes what a function picks from a collection. std: `ExtractIf`.
 pub struct Extraction<'a, M, F, T: PutBack<M>> {
     pub(crate) from: &'a mut M,
     pub(crate) taken: T,

@@ -46,7 +46,8 @@ use std::alloc::Global;
 use std::hash::{BuildHasherDefault, Hash, RandomState};
 use std::marker::Model;
 
-/// The greatest number of slots of a cache made without a maximum. scc: `DEFAULT_MAXIMUM_CAPACITY`.
+/// The maximum number of slots of a cache that is made without one. scc:
+/// `DEFAULT_MAXIMUM_CAPACITY`.
 pub const DEFAULT_MAXIMUM_CAPACITY: usize = 256;
 
 /// A cache: a map of bounded size, whose insertions may evict an earlier pair. scc: `HashCache`.
@@ -74,7 +75,7 @@ impl<K: Eq, V, H: KeyHash<K>> Model for HashCache<K, V, H> {
 impl<K: Eq, V, H: KeyHash<K>> HashCache<K, V, H> {
     ghost use Rattle.collections.specs.Room.{CacheFits};
 
-    /// Returns an empty cache of at most 256 slots, and their overflow chains. Takes no memory.
+    /// Returns an empty cache of at most 256 slots, plus their overflow chains. Allocates nothing.
     ///
     /// O(1). scc: `HashCache::with_hasher`.
     pub fn with_hasher(alloc: Global, hasher: H) -> Self
@@ -88,9 +89,9 @@ impl<K: Eq, V, H: KeyHash<K>> HashCache<K, V, H> {
         Self::with_capacity(alloc, hasher, 0, DEFAULT_MAXIMUM_CAPACITY)
     }
 
-    /// Returns an empty cache whose arrays have at least `minimum` slots, or 2^63, and at most the
-    /// least power of two that is at least `maximum`, the minimum and 64, or 2^63. Takes no memory:
-    /// the first insertion makes the array.
+    /// Returns an empty cache whose arrays have at least `minimum` slots, and at most the least
+    /// power of two that is at least `maximum`, `minimum` and 64; both are limited to 2^63.
+    /// Allocates nothing: the first insertion allocates the array.
     ///
     /// O(1). scc: `HashCache::with_capacity_and_hasher`.
     pub fn with_capacity(alloc: Global, hasher: H, minimum: usize, maximum: usize) -> Self
@@ -115,10 +116,10 @@ impl<K: Eq, V, H: KeyHash<K>> HashCache<K, V, H> {
     }
 
     /// Returns an empty cache whose minimum and maximum are the same number of slots: the least
-    /// power of two that is at least this number and 64, or 2^63. The first insertion makes the
-    /// array in its full size. Takes no memory.
+    /// power of two that is at least `slots` and 64, limited to 2^63. The first insertion allocates
+    /// the array at its full size. Allocates nothing.
     ///
-    /// O(1). Own: scc's `with_capacity_and_hasher`, its two capacities the same.
+    /// O(1). Like scc's `with_capacity_and_hasher` with equal capacities.
     pub fn with_size(alloc: Global, hasher: H, slots: usize) -> Self
         requires { CacheFits K.row V.row H.row K.PartialEq H.KeyHash }
         ensures empty { IsEmpty (map_of result) }
@@ -144,9 +145,9 @@ impl<K: Eq, V, H: KeyHash<K>> HashCache<K, V, H> {
         self.table.hasher()
     }
 
-    /// Returns how many pairs the cache has, at most 2^64 - 1: no more than the slots of its arrays
-    /// and the pairs of their overflow chains. The current array has no more slots than the
-    /// maximum.
+    /// Returns the number of pairs, or 2^64 - 1 if there are more. It is at most the number of
+    /// slots in the arrays plus the number of pairs in their overflow chains. The current array has
+    /// no more slots than the maximum.
     ///
     /// O(1); O(slots / 32) if there are more pairs than slots. scc: `HashCache::len`.
     pub fn len(&self) -> usize
@@ -160,7 +161,7 @@ impl<K: Eq, V, H: KeyHash<K>> HashCache<K, V, H> {
         self.table.bounded_len()
     }
 
-    /// Tests whether the cache has no pair.
+    /// Returns `true` if the cache has no pairs.
     ///
     /// O(1). scc: `HashCache::is_empty`.
     pub fn is_empty(&self) -> bool
@@ -170,9 +171,9 @@ impl<K: Eq, V, H: KeyHash<K>> HashCache<K, V, H> {
         self.table.is_empty()
     }
 
-    /// Calls a function with each pair once, in the order of the view. None is touched.
+    /// Calls a function once with each pair, in the order of the view. No pair is touched.
     ///
-    /// O(slots), and the function's calls. scc: `HashCache::iter_sync`.
+    /// O(slots), plus the function's calls. scc: `HashCache::iter_sync`.
     #[inline(always)]
     pub fn for_each<F: FnMut(&K, &V)>(&self, f: &mut F)
         requires callable { F.IsAlwaysCallable f.old }
@@ -185,9 +186,9 @@ impl<K: Eq, V, H: KeyHash<K>> HashCache<K, V, H> {
     }
 
     /// Calls a function with each pair of one bucket, and returns whether there is such a bucket,
-    /// as `HashMap::for_each_in`. No pair is touched.
+    /// like `HashMap::for_each_in`. No pair is touched.
     ///
-    /// Moves nothing, and takes no memory. O(1) expected, and the function's calls. Own.
+    /// Moves no pairs and allocates nothing. O(1) expected, plus the function's calls.
     pub fn for_each_in<F: FnMut(&K, &V)>(&self, bucket: usize, f: &mut F) -> bool
         requires callable { F.IsAlwaysCallable f.old }
         ensures again { F.IsAlwaysCallable f.new }
@@ -210,10 +211,10 @@ impl<K: Eq, V, H: KeyHash<K>> HashCache<K, V, H> {
         self.table.num_slots()
     }
 
-    /// Returns the value under a key, or under the keys that a form stands for, and doesn't touch
-    /// its pair; `None` if the cache hasn't the key.
+    /// Returns the value under `key`, a key or a form of one, without touching its pair; `None` if
+    /// absent.
     ///
-    /// Moves nothing, and takes no memory. O(1) expected. scc: `HashCache::peek_with`.
+    /// Moves no pairs and allocates nothing. O(1) expected. scc: `HashCache::peek_with`.
     #[inline(always)]
     pub fn peek<Q: KeyForm<K, H>>(&self, key: Q) -> Option<&V>
         ensures { option_copied result ≡ get_by (Q.stands_for key) (map_of self.now) }
@@ -222,10 +223,10 @@ impl<K: Eq, V, H: KeyHash<K>> HashCache<K, V, H> {
         value_by(&self.table, key)
     }
 
-    /// Returns the pair under a key, or under the keys that a form stands for, and doesn't touch
-    /// it: the cache's own key, and its value; `None` if the cache hasn't the key.
+    /// Returns the pair under `key`, a key or a form of one, without touching it: the cache's own
+    /// key and its value; `None` if absent.
     ///
-    /// Moves nothing, and takes no memory. O(1) expected. Own: std's `HashMap::get_key_value`.
+    /// Moves no pairs and allocates nothing. O(1) expected. Like std's `HashMap::get_key_value`.
     #[inline(always)]
     pub fn peek_key_value<Q: KeyForm<K, H>>(&self, key: Q) -> Option<(&K, &V)>
         ensures key { option_map (λ pair. pair.0.now) result
@@ -238,9 +239,9 @@ impl<K: Eq, V, H: KeyHash<K>> HashCache<K, V, H> {
         pair_by(&self.table, key)
     }
 
-    /// Tests whether the cache has a key, or one that a form stands for. None is touched.
+    /// Returns `true` if the cache contains `key`, a key or a form of one. No pair is touched.
     ///
-    /// Moves nothing, and takes no memory. O(1) expected. scc: `HashCache::contains_sync`.
+    /// Moves no pairs and allocates nothing. O(1) expected. scc: `HashCache::contains_sync`.
     #[inline(always)]
     pub fn contains<Q: KeyForm<K, H>>(&self, key: Q) -> bool
         ensures { result ≡ contains_by (Q.stands_for key) (map_of self.now) }
@@ -253,9 +254,9 @@ impl<K: Eq + Drop, V: Drop, H: KeyHash<K>> HashCache<K, V, H> {
     ghost use Rattle.collections.specs.CacheLoans.{EndsSo};
     ghost use Rattle.collections.specs.Orders.{IsTouched, LeavesPlace, PutsOrKeeps};
 
-    /// Returns the value under a key, or under the keys that a form stands for, and touches its
-    /// pair: it is now the most recently used one of its bucket. A pair in an overflow chain isn't
-    /// in the LRU order, and stays out of it. `None` if the cache hasn't the key.
+    /// Returns the value under `key`, a key or a form of one, and touches its pair, which becomes
+    /// the most recently used one of its bucket. A pair in an overflow chain isn't in the LRU
+    /// order, and stays out of it. `None` if absent.
     ///
     /// Never fails. O(1) expected. scc: `HashCache::get_sync`.
     #[inline(always)]
@@ -276,8 +277,8 @@ impl<K: Eq + Drop, V: Drop, H: KeyHash<K>> HashCache<K, V, H> {
         }
     }
 
-    /// Touches the pair under a key, or under the keys that a form stands for, as `get` does, and
-    /// returns whether the cache has the key.
+    /// Touches the pair under `key`, a key or a form of one, as `get` does, and returns whether the
+    /// cache contains the key.
     ///
     /// Never fails. O(1) expected. lru: `LruCache::promote`.
     #[inline(always)]
@@ -301,9 +302,10 @@ impl<K: Eq + Drop, V: Drop, H: KeyHash<K>> HashCache<K, V, H> {
     ///
     /// # Errors
     ///
-    /// The cache has an equal key; or allocation failed, and it has none. The pair is returned, and
-    /// none is evicted. Allocation can't fail while the cache has slots, no fewer than old slots,
-    /// and the key's bucket among the old slots, if any, is the home of at most 32 pairs.
+    /// The cache contains an equal key; or allocation failed, and it contains none. The pair is
+    /// returned, and none is evicted. Allocation can't fail while the cache has slots, at least as
+    /// many as old slots, and the key's bucket among the old slots, if any, is the home of at most
+    /// 32 pairs.
     ///
     /// O(1) expected, plus any resize. scc: `HashCache::put_sync`.
     pub fn put(&mut self, key: K, value: V) -> Result<Option<(K, V)>, NotInserted<K, V>>
@@ -328,8 +330,7 @@ impl<K: Eq + Drop, V: Drop, H: KeyHash<K>> HashCache<K, V, H> {
         }
     }
 
-    /// Removes the pair under a key, or under the keys that a form stands for, and returns it;
-    /// `None` if the cache hasn't the key.
+    /// Removes the pair under `key`, a key or a form of one, and returns it; `None` if absent.
     ///
     /// Never fails. O(1) expected, plus any resize. scc: `HashCache::remove_sync`.
     #[inline(always)]
@@ -360,8 +361,8 @@ impl<K: Eq + Drop, V: Drop, H: KeyHash<K>> HashCache<K, V, H> {
 }
 
 impl<K: Eq + Hash, V> HashCache<K, V, DefaultHash> {
-    /// Returns an empty cache of at most 256 slots, and their overflow chains, which hashes by
-    /// std's default. Takes no memory.
+    /// Returns an empty cache that uses std's default hasher and has at most 256 slots, plus their
+    /// overflow chains. Allocates nothing.
     ///
     /// O(1). scc: `HashCache::new`.
     pub fn new(alloc: Global) -> Self
@@ -375,10 +376,10 @@ impl<K: Eq + Hash, V> HashCache<K, V, DefaultHash> {
 }
 
 impl<K: Eq + Hash, V> HashCache<K, V, StdHash<RandomState>> {
-    /// Returns an empty cache of at most 256 slots, and their overflow chains, which hashes by keys
-    /// drawn at random, for keys that an adversary may pick. Takes no memory.
+    /// Returns an empty cache that hashes with a random seed, for keys that an attacker may choose,
+    /// and has at most 256 slots, plus their overflow chains. Allocates nothing.
     ///
-    /// O(1). Own: what std's `new` does.
+    /// O(1). Like std's `new`.
     pub fn with_random_state(alloc: Global, state: RandomState) -> Self
         ensures empty { IsEmpty (map_of result) }
         ensures hasher { result.hasher.builder ≡ state }

@@ -74,7 +74,7 @@ impl<K: Eq, V, H: KeyHash<K>> Model for HashIndex<K, V, H> {
 impl<K: Eq, V, H: KeyHash<K>> HashIndex<K, V, H> {
     ghost use Rattle.collections.specs.Room.{IndexFits};
 
-    /// Returns an empty index. Takes no memory.
+    /// Returns an empty index. Allocates nothing.
     ///
     /// O(1). scc: `HashIndex::with_hasher`.
     pub fn with_hasher(alloc: Global, hasher: H) -> Self
@@ -89,8 +89,8 @@ impl<K: Eq, V, H: KeyHash<K>> HashIndex<K, V, H> {
         Self::with_minimum(alloc, hasher, 0)
     }
 
-    /// Returns an empty index whose minimum is this number of slots, or 2^63. Takes no memory: the
-    /// first insertion makes an array.
+    /// Returns an empty index whose minimum is `slots`, limited to 2^63. Allocates nothing: the
+    /// first insertion allocates an array.
     ///
     /// O(1). scc: `HashIndex::with_capacity_and_hasher`.
     pub fn with_minimum(alloc: Global, hasher: H, slots: usize) -> Self
@@ -119,7 +119,7 @@ impl<K: Eq, V, H: KeyHash<K>> HashIndex<K, V, H> {
         self.table.hasher()
     }
 
-    /// Returns how many pairs the index has, without tombstones, at most 2^64 - 1.
+    /// Returns the number of pairs without tombstones, or 2^64 - 1 if there are more.
     ///
     /// O(1). scc: `HashIndex::len`.
     pub fn len(&self) -> usize
@@ -129,7 +129,7 @@ impl<K: Eq, V, H: KeyHash<K>> HashIndex<K, V, H> {
         self.table.len()
     }
 
-    /// Tests whether the index has no pair; a tombstone's pair isn't in it any more.
+    /// Returns `true` if the index has no pairs. Tombstones don't count.
     ///
     /// O(1). scc: `HashIndex::is_empty`.
     pub fn is_empty(&self) -> bool
@@ -149,9 +149,9 @@ impl<K: Eq, V, H: KeyHash<K>> HashIndex<K, V, H> {
         self.table.num_slots()
     }
 
-    /// Calls a function with each pair once, in the order of the view, and with no tombstone.
+    /// Calls a function once with each pair, in the order of the view, and with no tombstone.
     ///
-    /// O(slots), and the function's calls. scc: `HashIndex::iter_sync`.
+    /// O(slots), plus the function's calls. scc: `HashIndex::iter_sync`.
     #[inline(always)]
     pub fn for_each<F: FnMut(&K, &V)>(&self, f: &mut F)
         requires callable { F.IsAlwaysCallable f.old }
@@ -164,9 +164,9 @@ impl<K: Eq, V, H: KeyHash<K>> HashIndex<K, V, H> {
     }
 
     /// Calls a function with each pair of one bucket and with no tombstone, and returns whether
-    /// there is such a bucket, as `HashMap::for_each_in`.
+    /// there is such a bucket, like `HashMap::for_each_in`.
     ///
-    /// Moves nothing, and takes no memory. O(1) expected, and the function's calls. Own.
+    /// Moves no pairs and allocates nothing. O(1) expected, plus the function's calls.
     pub fn for_each_in<F: FnMut(&K, &V)>(&self, bucket: usize, f: &mut F) -> bool
         requires callable { F.IsAlwaysCallable f.old }
         ensures again { F.IsAlwaysCallable f.new }
@@ -179,10 +179,9 @@ impl<K: Eq, V, H: KeyHash<K>> HashIndex<K, V, H> {
         self.table.for_each_in(bucket, f)
     }
 
-    /// Returns the value under a key, or under the keys that a form stands for; `None` if the index
-    /// hasn't the key.
+    /// Returns the value under `key`, a key or a form of one; `None` if absent.
     ///
-    /// Moves nothing, and takes no memory. O(1) expected. scc: `HashIndex::peek`.
+    /// Moves no pairs and allocates nothing. O(1) expected. scc: `HashIndex::peek`.
     #[inline(always)]
     pub fn peek<Q: KeyForm<K, H>>(&self, key: Q) -> Option<&V>
         ensures { option_copied result ≡ get_by (Q.stands_for key) (map_of self.now) }
@@ -191,10 +190,10 @@ impl<K: Eq, V, H: KeyHash<K>> HashIndex<K, V, H> {
         value_by(&self.table, key)
     }
 
-    /// Returns the pair under a key, or under the keys that a form stands for: the index's own key,
-    /// and its value; `None` if the index hasn't the key.
+    /// Returns the pair under `key`, a key or a form of one: the index's own key and its value;
+    /// `None` if absent.
     ///
-    /// Moves nothing, and takes no memory. O(1) expected. Own: std's `HashMap::get_key_value`.
+    /// Moves no pairs and allocates nothing. O(1) expected. Like std's `HashMap::get_key_value`.
     #[inline(always)]
     pub fn peek_key_value<Q: KeyForm<K, H>>(&self, key: Q) -> Option<(&K, &V)>
         ensures key { option_map (λ pair. pair.0.now) result
@@ -207,9 +206,9 @@ impl<K: Eq, V, H: KeyHash<K>> HashIndex<K, V, H> {
         pair_by(&self.table, key)
     }
 
-    /// Tests whether the index has a key, or one that a form stands for.
+    /// Returns `true` if the index contains `key`, a key or a form of one.
     ///
-    /// Moves nothing, and takes no memory. O(1) expected. scc: `HashIndex::contains`.
+    /// Moves no pairs and allocates nothing. O(1) expected. scc: `HashIndex::contains`.
     #[inline(always)]
     pub fn contains<Q: KeyForm<K, H>>(&self, key: Q) -> bool
         ensures { result ≡ contains_by (Q.stands_for key) (map_of self.now) }
@@ -219,14 +218,15 @@ impl<K: Eq, V, H: KeyHash<K>> HashIndex<K, V, H> {
 }
 
 impl<K: Eq + Drop, V: Drop, H: KeyHash<K>> HashIndex<K, V, H> {
-    /// Inserts a pair whose key the index hasn't. If no own slot of its home is free and one has a
-    /// tombstone, it first drops all tombstones there.
+    /// Inserts a pair whose key the index does not contain. If no own slot of its home is free and
+    /// one has a tombstone, it first drops all tombstones there.
     ///
     /// # Errors
     ///
-    /// The index has an equal key; or allocation failed, and it has none. The pair is returned.
-    /// Allocation can't fail while the index has slots, no fewer than old slots, the key's bucket
-    /// has fewer than 32 pairs, and its bucket among the old slots, if any, at most 32.
+    /// The index contains an equal key; or allocation failed, and it contains none. The pair is
+    /// returned. Allocation can't fail while the index has slots, at least as many as old slots,
+    /// the key's bucket has fewer than 32 pairs, and its bucket among the old slots, if any, at
+    /// most 32.
     ///
     /// O(1) expected, plus any resize. scc: `HashIndex::insert_sync`.
     #[inline(always)]
@@ -247,8 +247,8 @@ impl<K: Eq + Drop, V: Drop, H: KeyHash<K>> HashIndex<K, V, H> {
         outcome
     }
 
-    /// Removes the pair under a key, or under the keys that a form stands for, and leaves a
-    /// tombstone. The pair is no longer in the index. Returns whether there was one.
+    /// Removes the pair under `key`, a key or a form of one, and leaves a tombstone in its slot.
+    /// The pair is no longer in the index. Returns whether there was one.
     ///
     /// Never fails. O(1) expected, plus any resize. scc: `HashIndex::remove_sync`.
     #[inline(always)]
@@ -262,11 +262,11 @@ impl<K: Eq + Drop, V: Drop, H: KeyHash<K>> HashIndex<K, V, H> {
         removed.is_some()
     }
 
-    /// Calls a function with the pair under a key, or under the keys that a form stands for, leaves
-    /// a tombstone as `remove` does, and returns what the function returns. If the index hasn't the
-    /// key, the function isn't called, and the result is `None`.
+    /// Calls a function with the pair under `key`, a key or a form of one, leaves a tombstone as
+    /// `remove` does, and returns what the function returns. If the index does not contain the key,
+    /// the function isn't called, and the result is `None`.
     ///
-    /// Never fails. O(1) expected, plus any resize. Own.
+    /// Never fails. O(1) expected, plus any resize.
     #[inline(always)]
     pub fn remove_with<Q: KeyForm<K, H>, R, F: FnOnce(&K, &V) -> R>(
         &mut self,
@@ -298,8 +298,9 @@ impl<K: Eq + Drop, V: Drop, H: KeyHash<K>> HashIndex<K, V, H> {
         outcome
     }
 
-    /// Raises the minimum, and returns by how much: by `additional`, or by 0 if it would pass the
-    /// maximum. The pairs stay. No clause says that slots are allocated.
+    /// Raises the minimum number of slots by `additional`, or by 0 if it would exceed the maximum,
+    /// and returns by how much. The pairs stay. The contract doesn't promise that slots are
+    /// allocated.
     ///
     /// Never fails. O(slots). scc: `HashIndex::reserve`.
     pub fn raise_minimum(&mut self, additional: usize) -> usize
@@ -313,10 +314,10 @@ impl<K: Eq + Drop, V: Drop, H: KeyHash<K>> HashIndex<K, V, H> {
         raised
     }
 
-    /// Sets the minimum to 0. The pairs stay. A resize may then free slots, and no clause says that
-    /// it does; a map's `shrink_to_fit` leaves as few as the pairs take.
+    /// Sets the minimum to 0. The pairs stay. A resize may then free slots, but the contract
+    /// doesn't promise it; a map's `shrink_to_fit` leaves as few as the pairs need.
     ///
-    /// Never fails. O(slots). Own: what ends scc's `Reserve`s.
+    /// Never fails. O(slots). Does what dropping every `Reserve` does in scc.
     pub fn shrink_to_fit(&mut self)
         ensures map { Stays K.eq (record (map_of self.old) { minimum = 0 }) (map_of self.new) }
         ensures marks { KeepsMarks self.old.arrays self.new.arrays }
@@ -342,7 +343,7 @@ impl<K: Eq + Drop, V: Drop, H: KeyHash<K>> HashIndex<K, V, H> {
 }
 
 impl<K: Eq + Hash, V> HashIndex<K, V, DefaultHash> {
-    /// Returns an empty index that hashes by std's default. Takes no memory.
+    /// Returns an empty index that uses std's default hasher. Allocates nothing.
     ///
     /// O(1). scc: `HashIndex::new`.
     pub fn new(alloc: Global) -> Self
@@ -357,10 +358,10 @@ impl<K: Eq + Hash, V> HashIndex<K, V, DefaultHash> {
 }
 
 impl<K: Eq + Hash, V> HashIndex<K, V, StdHash<RandomState>> {
-    /// Returns an empty index that hashes by keys drawn at random, for keys that an adversary may
-    /// pick. Takes no memory.
+    /// Returns an empty index that hashes with a random seed, for keys that an attacker may choose.
+    /// Allocates nothing.
     ///
-    /// O(1). Own: what std's `new` does.
+    /// O(1). Like std's `new`.
     pub fn with_random_state(alloc: Global, state: RandomState) -> Self
         ensures empty { IsEmpty (map_of result) }
         ensures unmarked { marks_of result.arrays ≡ [] }

@@ -55,16 +55,16 @@ use std::marker::Model;
 
 /// A map from keys to values. scc: `HashMap`.
 ///
-/// The pairs are in an array of buckets of 32 slots each, with an overflow chain for a bucket
-/// that is full. When the array gets too full or too empty, a resize allocates another one, and an
+/// The pairs are in an array of buckets of 32 slots each; a bucket that is full has an overflow
+/// chain. When the array gets too full or too empty, a resize allocates another one, and an
 /// incremental rehash moves the pairs: while there is an old array, a call that writes under one
 /// key first moves a unit of 64 old buckets, and the old buckets whose pairs belong in the key's
-/// bucket. A call that never does so says that it moves nothing.
+/// bucket. A call that never does so is documented with "Moves no pairs".
 ///
-/// Allocation failure: a resize that can't allocate is left out, and a unit that can't be moved
-/// stays in the old array; neither is an error. An insertion that fails returns what was to be
-/// inserted, and the map has the pairs that it had. Calls that insert nothing never fail, but for
-/// those that copy pairs or move them all at once.
+/// On allocation failure a resize is skipped, and a unit that can't be moved stays in the old
+/// array; neither is an error. An insertion that fails returns what was to be inserted, and the map
+/// keeps the pairs that it had. Calls that insert nothing never fail, except those that copy pairs
+/// or move them all at once.
 #[derive(Drop)]
 pub struct HashMap<K: Eq, V, H: KeyHash<K> = DefaultHash> {
     table: HashTable<K, V, H, (), MAP>,
@@ -82,8 +82,8 @@ impl<K: Eq, V, H: KeyHash<K>> Model for HashMap<K, V, H> {
 impl<K: Eq, V, H: KeyHash<K>> HashMap<K, V, H> {
     ghost use Rattle.collections.specs.Room.{MapFits};
 
-    /// Returns an empty map with a minimum of 64 slots. Takes no memory: the first insertion makes
-    /// the slots, and the removal of the last pair keeps so many.
+    /// Returns an empty map with a minimum of 64 slots. Allocates nothing: the first insertion
+    /// allocates the slots, and the removal of the last pair keeps that many.
     ///
     /// O(1). scc: `HashMap::with_hasher`, whose minimum is 0.
     pub fn with_hasher(alloc: Global, hasher: H) -> Self
@@ -110,13 +110,13 @@ impl<K: Eq, V, H: KeyHash<K>> HashMap<K, V, H> {
 
     /// Returns the allocator, which serves all slots of the map.
     ///
-    /// O(1). Own: as the kit's `HashMap::allocator`.
+    /// O(1). Like the kit's `HashMap::allocator`.
     pub fn allocator(&self) -> Global {
         self.room.learn();
         self.table.allocator()
     }
 
-    /// Returns how many pairs the map has, at most 2^64 - 1.
+    /// Returns the number of pairs, or 2^64 - 1 if there are more.
     ///
     /// O(1). scc: `HashMap::len`.
     pub fn len(&self) -> usize
@@ -126,7 +126,7 @@ impl<K: Eq, V, H: KeyHash<K>> HashMap<K, V, H> {
         self.table.len()
     }
 
-    /// Tests whether the map has no pair.
+    /// Returns `true` if the map has no pairs.
     ///
     /// O(1). scc: `HashMap::is_empty`.
     pub fn is_empty(&self) -> bool
@@ -146,9 +146,9 @@ impl<K: Eq, V, H: KeyHash<K>> HashMap<K, V, H> {
         self.table.num_slots()
     }
 
-    /// Returns the value under a key, or under the keys that a form stands for; `None` if absent.
+    /// Returns the value under `key`, a key or a form of one; `None` if absent.
     ///
-    /// Moves nothing, and takes no memory. O(1) expected. scc: `HashMap::peek_with`.
+    /// Moves no pairs and allocates nothing. O(1) expected. scc: `HashMap::peek_with`.
     #[inline(always)]
     pub fn get<Q: KeyForm<K, H>>(&self, key: Q) -> Option<&V>
         ensures { option_copied result ≡ get_by (Q.stands_for key) self.now }
@@ -157,9 +157,9 @@ impl<K: Eq, V, H: KeyHash<K>> HashMap<K, V, H> {
         value_by(&self.table, key)
     }
 
-    /// Tests whether the map has a key, or one that a form stands for.
+    /// Returns `true` if the map contains `key`, a key or a form of one.
     ///
-    /// Moves nothing, and takes no memory. O(1) expected. scc: `HashMap::contains_sync`.
+    /// Moves no pairs and allocates nothing. O(1) expected. scc: `HashMap::contains_sync`.
     #[inline(always)]
     pub fn contains<Q: KeyForm<K, H>>(&self, key: Q) -> bool
         ensures { result ≡ contains_by (Q.stands_for key) self.now }
@@ -167,7 +167,7 @@ impl<K: Eq, V, H: KeyHash<K>> HashMap<K, V, H> {
         self.get(key).is_some()
     }
 
-    /// As `contains`. std: `HashMap::contains_key`.
+    /// The same as `contains`. std: `HashMap::contains_key`.
     #[inline(always)]
     pub fn contains_key<Q: KeyForm<K, H>>(&self, key: Q) -> bool
         ensures { result ≡ contains_by (Q.stands_for key) self.now }
@@ -177,13 +177,14 @@ impl<K: Eq, V, H: KeyHash<K>> HashMap<K, V, H> {
 }
 
 impl<K: Eq + Drop, V: Drop, H: KeyHash<K>> HashMap<K, V, H> {
-    /// Inserts a pair whose key the map hasn't.
+    /// Inserts a pair whose key the map does not contain.
     ///
     /// # Errors
     ///
-    /// The map has an equal key; or allocation failed, and it has none. The pair is returned.
-    /// Allocation can't fail while the map has slots, no fewer than old slots, the key's bucket is
-    /// the home of fewer than 32 pairs, and its bucket among the old slots, if any, of at most 32.
+    /// The map contains an equal key; or allocation failed, and it contains none. The pair is
+    /// returned. Allocation can't fail while the map has slots, at least as many as old slots, the
+    /// key's bucket is the home of fewer than 32 pairs, and its bucket among the old slots, if any,
+    /// of at most 32.
     ///
     /// O(1) expected, plus any resize. scc: `HashMap::insert_sync`.
     #[inline(always)]
@@ -200,8 +201,7 @@ impl<K: Eq + Drop, V: Drop, H: KeyHash<K>> HashMap<K, V, H> {
         outcome
     }
 
-    /// Removes the pair under a key, or under the keys that a form stands for, and returns it;
-    /// `None` if the map hasn't the key.
+    /// Removes the pair under `key`, a key or a form of one, and returns it; `None` if absent.
     ///
     /// Never fails. O(1) expected, plus any resize. scc: `HashMap::remove_sync`.
     #[inline(always)]
@@ -213,12 +213,12 @@ impl<K: Eq + Drop, V: Drop, H: KeyHash<K>> HashMap<K, V, H> {
         self.remove_hashed(hash, key)
     }
 
-    /// Inserts a pair, or replaces the value of the equal key, which stays, and returns the earlier
-    /// value. If the map has an equal key, the call never fails.
+    /// Inserts a pair. If the map contains an equal key, that key stays, its value is replaced and
+    /// returned, and the call never fails.
     ///
     /// # Errors
     ///
-    /// Allocation failure, as in `insert`: the map has no equal key, and the pair is returned.
+    /// Allocation failure, as in `insert`: the map contains no equal key, and the pair is returned.
     ///
     /// O(1) expected, plus any resize. scc: `HashMap::upsert_sync`.
     #[inline(always)]
@@ -241,8 +241,8 @@ impl<K: Eq + Drop, V: Drop, H: KeyHash<K>> HashMap<K, V, H> {
         Ok(earlier)
     }
 
-    /// Calls a function with the pair under a key, or under the keys that a form stands for, its
-    /// value mutable, and returns what the function returns. If the map hasn't the key, the
+    /// Calls a function with the key and a mutable reference to the value under `key`, a key or a
+    /// form of one, and returns what the function returns. If the map does not contain the key, the
     /// function isn't called, and the result is `None`.
     ///
     /// Never fails. O(1) expected. scc: `HashMap::update_sync`.
@@ -294,8 +294,8 @@ impl<K: Eq + Debug, V: Debug, H: KeyHash<K>> Debug for HashMap<K, V, H> {
 }
 
 impl<K: Eq + Hash, V> HashMap<K, V, DefaultHash> {
-    /// Returns an empty map with a minimum of 64 slots that hashes by std's default, as
-    /// `with_hasher` does. Takes no memory.
+    /// Returns an empty map with a minimum of 64 slots that uses std's default hasher, as
+    /// `with_hasher` does with a given one. Allocates nothing.
     ///
     /// O(1). scc: `HashMap::new`, whose minimum is 0.
     pub fn new(alloc: Global) -> Self
@@ -310,10 +310,10 @@ impl<K: Eq + Hash, V> HashMap<K, V, DefaultHash> {
 }
 
 impl<K: Eq + Hash, V> HashMap<K, V, StdHash<RandomState>> {
-    /// Returns an empty map with a minimum of 64 slots that hashes by a random seed, for keys that
-    /// an attacker may pick. Takes no memory.
+    /// Returns an empty map with a minimum of 64 slots that hashes with a random seed, for keys
+    /// that an attacker may choose. Allocates nothing.
     ///
-    /// O(1). Own: what std's `new` does.
+    /// O(1). Like std's `new`.
     pub fn with_random_state(alloc: Global, state: RandomState) -> Self
         ensures empty { IsEmpty result }
         ensures hasher { result.hasher.builder ≡ state }

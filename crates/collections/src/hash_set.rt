@@ -61,8 +61,8 @@ impl<K: Eq, H: KeyHash<K>> Model for HashSet<K, H> {
 impl<K: Eq, H: KeyHash<K>> HashSet<K, H> {
     ghost use Rattle.collections.specs.Room.{SetFits};
 
-    /// Returns an empty set with a minimum of 64 slots. Takes no memory: the first insertion makes
-    /// the slots, and the removal of the last key keeps so many.
+    /// Returns an empty set with a minimum of 64 slots. Allocates nothing: the first insertion
+    /// allocates the slots, and the removal of the last key keeps that many.
     ///
     /// O(1). scc: `HashSet::with_hasher`, whose minimum is 0.
     pub fn with_hasher(alloc: Global, hasher: H) -> Self
@@ -79,9 +79,9 @@ impl<K: Eq, H: KeyHash<K>> HashSet<K, H> {
         }
     }
 
-    /// Tests whether the set has a key, or one that a form stands for.
+    /// Returns `true` if the set contains `key`, a key or a form of one.
     ///
-    /// Moves nothing, and takes no memory. O(1) expected. scc: `HashSet::contains_sync`.
+    /// Moves no pairs and allocates nothing. O(1) expected. scc: `HashSet::contains_sync`.
     pub fn contains<Q: KeyForm<K, H>>(&self, key: Q) -> bool
         ensures { result ≡ contains_by (Q.stands_for key) self.now }
     {
@@ -90,12 +90,12 @@ impl<K: Eq, H: KeyHash<K>> HashSet<K, H> {
 
     /// Returns the allocator, which serves all slots of the set.
     ///
-    /// O(1). Own: as the kit's `HashSet::allocator`.
+    /// O(1). Like the kit's `HashSet::allocator`.
     pub fn allocator(&self) -> Global {
         self.map.allocator()
     }
 
-    /// Returns how many keys the set has, at most 2^64 - 1.
+    /// Returns the number of keys, or 2^64 - 1 if there are more.
     ///
     /// O(1). scc: `HashSet::len`.
     pub fn len(&self) -> usize
@@ -104,7 +104,7 @@ impl<K: Eq, H: KeyHash<K>> HashSet<K, H> {
         self.map.len()
     }
 
-    /// Tests whether the set has no key.
+    /// Returns `true` if the set has no keys.
     ///
     /// O(1). scc: `HashSet::is_empty`.
     pub fn is_empty(&self) -> bool
@@ -131,9 +131,9 @@ impl<K: Eq, H: KeyHash<K>> HashSet<K, H> {
         self.map.capacity()
     }
 
-    /// Calls a function with each key once, in the order of the view.
+    /// Calls a function once with each key, in the order of the view.
     ///
-    /// O(slots), and the function's calls. Own: std's loop over `iter`.
+    /// O(slots), plus the function's calls. Like a loop over std's `iter`.
     pub fn for_each<F: FnMut(&K)>(&self, mut f: F)
         requires callable { F.IsAlwaysCallable f }
         ensures calls { (last : F) × CallsEachKey F.FnMut f (keys_of self.now.entries) last }
@@ -141,9 +141,9 @@ impl<K: Eq, H: KeyHash<K>> HashSet<K, H> {
         self.for_each_ref(&mut f);
     }
 
-    /// As `for_each`, with a borrowed function, whose state after the call the contract gives.
+    /// Like `for_each`, but borrows the function; the contract gives its state after the call.
     ///
-    /// O(slots), and the function's calls. scc: `HashSet::iter_sync`.
+    /// O(slots), plus the function's calls. scc: `HashSet::iter_sync`.
     pub fn for_each_ref<F: FnMut(&K)>(&self, f: &mut F)
         requires callable { F.IsAlwaysCallable f.old }
         ensures again { F.IsAlwaysCallable f.new }
@@ -159,10 +159,10 @@ impl<K: Eq, H: KeyHash<K>> HashSet<K, H> {
         self.map.for_each_ref(&mut visit);
     }
 
-    /// Calls a function with each key of one bucket, and returns whether there is such a bucket, as
-    /// `HashMap::for_each_in`.
+    /// Calls a function with each key of one bucket, and returns whether there is such a bucket,
+    /// like `HashMap::for_each_in`.
     ///
-    /// Moves nothing, and takes no memory. O(1) expected, and the function's calls. Own.
+    /// Moves no pairs and allocates nothing. O(1) expected, plus the function's calls.
     pub fn for_each_in<F: FnMut(&K)>(&self, bucket: usize, f: &mut F) -> bool
         requires callable { F.IsAlwaysCallable f.old }
         ensures again { F.IsAlwaysCallable f.new }
@@ -183,12 +183,12 @@ impl<K: Eq, H: KeyHash<K>> HashSet<K, H> {
 }
 
 impl<K: Eq + Drop, H: KeyHash<K>> HashSet<K, H> {
-    /// Inserts a key that the set hasn't.
+    /// Inserts a key that the set does not contain.
     ///
     /// # Errors
     ///
-    /// The set has an equal key; or allocation failed, as in `HashMap::insert`, and it has none.
-    /// The key is returned.
+    /// The set contains an equal key; or allocation failed, as in `HashMap::insert`, and it
+    /// contains none. The key is returned.
     ///
     /// O(1) expected, plus any resize. scc: `HashSet::insert_sync`; std's is `insert`.
     pub fn insert_new(&mut self, key: K) -> Result<(), NotInserted<K, ()>>
@@ -199,8 +199,8 @@ impl<K: Eq + Drop, H: KeyHash<K>> HashSet<K, H> {
         self.map.insert(key, ())
     }
 
-    /// Removes the key that is equal, or that a form stands for, and returns it; `None` if the set
-    /// hasn't one.
+    /// Removes the set's own key that matches `key`, a key or a form of one, and returns it; `None`
+    /// if absent.
     ///
     /// Never fails. O(1) expected, plus any resize. scc: `HashSet::remove_sync`; std's
     /// `HashSet::take`.
@@ -214,9 +214,9 @@ impl<K: Eq + Drop, H: KeyHash<K>> HashSet<K, H> {
         }
     }
 
-    /// Calls a function with each key once, and drops each key for which it returns `false`.
+    /// Calls a function once with each key, and drops each key for which it returns `false`.
     ///
-    /// Never fails, and takes no memory. O(slots), and the function's calls. std:
+    /// Never fails and allocates nothing. O(slots), plus the function's calls. std:
     /// `HashSet::retain`.
     pub fn retain<F: FnMut(&K) -> bool>(&mut self, mut f: F)
         requires callable { F.IsAlwaysCallable f }
@@ -225,9 +225,9 @@ impl<K: Eq + Drop, H: KeyHash<K>> HashSet<K, H> {
         self.retain_ref(&mut f);
     }
 
-    /// As `retain`, with a borrowed function, whose state after the call the contract gives.
+    /// Like `retain`, but borrows the function; the contract gives its state after the call.
     ///
-    /// Never fails, and takes no memory. O(slots), and the function's calls. scc:
+    /// Never fails and allocates nothing. O(slots), plus the function's calls. scc:
     /// `HashSet::retain_sync`.
     pub fn retain_ref<F: FnMut(&K) -> bool>(&mut self, f: &mut F)
         requires callable { F.IsAlwaysCallable f.old }
@@ -254,14 +254,13 @@ impl<K: Eq + Drop, H: KeyHash<K>> HashSet<K, H> {
 }
 
 impl<K: Eq + Copy, H: KeyHash<K> + Copy> HashSet<K, H> {
-    /// Returns another set with the same keys, hasher and capacities, whose memory comes from the
-    /// allocator.
+    /// Returns a copy with the same keys, hasher and capacities, allocated from `alloc`.
     ///
     /// # Errors
     ///
-    /// Allocation failure. An empty set takes no memory.
+    /// Allocation failure. An empty set allocates nothing.
     ///
-    /// O(slots) expected. Own: `try_clone` for `Copy` keys, with a stronger contract.
+    /// O(slots) expected. This is `try_clone` for `Copy` keys, with a stronger contract.
     pub fn try_copy(&self, alloc: Global) -> Result<Self, AllocError>
         ensures copy { IfOk result (λ copy. IsCopy K.eq self.now copy) }
         ensures succeeds { IsEmpty self.now → IsOk result }
@@ -272,8 +271,8 @@ impl<K: Eq + Copy, H: KeyHash<K> + Copy> HashSet<K, H> {
 }
 
 impl<K: Eq + Hash> HashSet<K, DefaultHash> {
-    /// Returns an empty set with a minimum of 64 slots that hashes by std's default, as
-    /// `with_hasher` does. Takes no memory.
+    /// Returns an empty set with a minimum of 64 slots that uses std's default hasher, as
+    /// `with_hasher` does with a given one. Allocates nothing.
     ///
     /// O(1). scc: `HashSet::new`, whose minimum is 0.
     pub fn new(alloc: Global) -> Self
@@ -288,10 +287,10 @@ impl<K: Eq + Hash> HashSet<K, DefaultHash> {
 }
 
 impl<K: Eq + Hash> HashSet<K, StdHash<RandomState>> {
-    /// Returns an empty set with a minimum of 64 slots that hashes by a random seed, for keys that
-    /// an attacker may pick. Takes no memory.
+    /// Returns an empty set with a minimum of 64 slots that hashes with a random seed, for keys
+    /// that an attacker may choose. Allocates nothing.
     ///
-    /// O(1). Own: what std's `new` does.
+    /// O(1). Like std's `new`.
     pub fn with_random_state(alloc: Global, state: RandomState) -> Self
         ensures empty { IsEmpty result }
         ensures hasher { result.hasher.builder ≡ state }
@@ -315,7 +314,7 @@ impl<K: Eq + Debug, H: KeyHash<K>> Debug for HashSet<K, H> {
     }
 }
 
-/// As std's sets: `==` is whether each has the keys of the other.
+/// As with std's sets, two sets are equal if each contains the keys of the other.
 impl<K: Eq, H: KeyHash<K>> PartialEq for HashSet<K, H> {
     ghost use Rattle.collections.specs.Equality.{map_eq};
     ghost use Rattle.collections.specs.EqualityLaws.{map_eq_joined, map_eq_turned};

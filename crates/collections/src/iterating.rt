@@ -1,9 +1,9 @@
-//! The iterators over the keys and the values of each collection: those of a table's pairs, of
-//! which each step returns one half.
+//! Iterators over the keys and the values of each collection. Each wraps the iterator over a
+//! table's pairs, and returns one half of each pair.
 //!
-//! The last parameter is that of the table's own iterator: a borrow of the kind of table, which no
-//! field holds. A `size_hint` is that of the pairs, in O(1). No iterator is an `ExactSizeIterator`:
-//! no clause says that the pairs are fewer than 2^64.
+//! The last type parameter is that of the table's own iterator: a borrow of the kind of table,
+//! which no field holds. A `size_hint` is that of the pairs, in O(1). No iterator is an
+//! `ExactSizeIterator`, since no clause says that there are fewer than 2^64 pairs.
 ghost use Rattle.std.specs.Prelude.{◌≡◌};
 ghost use Rattle.std.specs.Iterator.{YieldsFirstRef, item_count};
 
@@ -13,13 +13,13 @@ use std::alloc::AllocError;
 use std::iter::FusedIterator;
 use std::marker::Model;
 
-/// The keys of a collection that are left.
+/// An iterator over the keys of a collection.
 #[derive(Drop)]
 pub struct PairKeys<'a, K, V, L: LruList, const TYPE: u8, R> {
     pub(crate) inner: ArraysPairs<'a, K, V, L, TYPE, R>,
 }
 
-/// The keys of a table that are left.
+/// An iterator over the keys of a table.
 pub type TableKeys<'a, K, V, L, const TYPE: u8> = PairKeys<'a, K, V, L, TYPE, &'a Kind<TYPE>>;
 
 impl<'a, K, V, L: LruList, const TYPE: u8, R> Model for PairKeys<'a, K, V, L, TYPE, R> {
@@ -46,13 +46,13 @@ impl<'a, K, V, L: LruList, const TYPE: u8> Iterator
         }
     }
 
-    /// As that of the pairs. O(1).
+    /// The pairs' size hint. O(1).
     fn size_hint(&self) -> (usize, Option<usize>) {
         self.inner.size_hint()
     }
 }
 
-/// Takes no memory, and can't fail.
+/// Allocates nothing and can't fail.
 impl<'a, K, V, L: LruList, const TYPE: u8> Clone for PairKeys<'a, K, V, L, TYPE, &'a Kind<TYPE>> {
     ghost is_clone = { λ own copy. copy ≡ own };
 
@@ -67,13 +67,13 @@ impl<'a, K, V, L: LruList, const TYPE: u8> Clone for PairKeys<'a, K, V, L, TYPE,
 impl<'a, K, V, L: LruList, const TYPE: u8> FusedIterator
     for PairKeys<'a, K, V, L, TYPE, &'a Kind<TYPE>> {}
 
-/// The values of a collection that are left.
+/// An iterator over the values of a collection.
 #[derive(Drop)]
 pub struct PairValues<'a, K, V, L: LruList, const TYPE: u8, R> {
     pub(crate) inner: ArraysPairs<'a, K, V, L, TYPE, R>,
 }
 
-/// The values of a table that are left.
+/// An iterator over the values of a table.
 pub type TableValues<'a, K, V, L, const TYPE: u8> = PairValues<'a, K, V, L, TYPE, &'a Kind<TYPE>>;
 
 impl<'a, K, V, L: LruList, const TYPE: u8, R> Model for PairValues<'a, K, V, L, TYPE, R> {
@@ -100,13 +100,13 @@ impl<'a, K, V, L: LruList, const TYPE: u8> Iterator
         }
     }
 
-    /// As that of the pairs. O(1).
+    /// The pairs' size hint. O(1).
     fn size_hint(&self) -> (usize, Option<usize>) {
         self.inner.size_hint()
     }
 }
 
-/// Takes no memory, and can't fail.
+/// Allocates nothing and can't fail.
 impl<'a, K, V, L: LruList, const TYPE: u8> Clone for PairValues<'a, K, V, L, TYPE, &'a Kind<TYPE>> {
     ghost is_clone = { λ own copy. copy ≡ own };
 

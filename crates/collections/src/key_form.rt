@@ -1,4 +1,4 @@
-//! The forms in which a key is looked up, as a `&str` in the place of a `String`.
+//! Forms in which a key can be looked up, such as a `&str` for a `String`.
 ghost use Rattle.std.specs.Prelude.{◌≡◌, Bool, IfSome, IsTrue, true, string_bytes};
 ghost use Rattle.std.specs.Borrow.{Bor};
 ghost use Rattle.std.specs.Option.{option_copied, option_map};
@@ -23,8 +23,8 @@ use std::hash::{BuildHasher, Hash};
 use std::marker::PhantomData;
 pub use to_key::ToKey;
 
-/// A form in which a key is looked up. It stands for a class of equal keys, and has their hash.
-/// Own; std has `Borrow` for that, scc `Equivalent`.
+/// A form in which a key can be looked up, such as a `&str` for a `String`. It stands for a class
+/// of equal keys, and has their hash. std uses `Borrow` for this, scc `Equivalent`.
 pub trait KeyForm<K: Eq, H: KeyHash<K>>: Copy {
     /// Whether the form stands for a key.
     ghost stands_for: { Self → K → Bool };
@@ -37,13 +37,13 @@ pub trait KeyForm<K: Eq, H: KeyHash<K>>: Copy {
     fn hash_by(&self, hasher: &H) -> u64
         ensures { (key : K) → stands_for self.now key ≡ true → H.hash_of hasher.now key ≡ result };
 
-    /// If it stands for a key, it stands for the keys equal to that one, and for no other.
+    /// If it stands for a key, it stands for exactly the keys that are equal to that one.
     ghost alike: { (form : Self) (key other : K)
         → stands_for form key ≡ true
         → stands_for form other ≡ K.eq key other };
 }
 
-/// A key stands for its equals.
+/// A reference to a key stands for the keys that are equal to it.
 impl<'k, K: Eq, H: KeyHash<K>> KeyForm<K, H> for &'k K {
     ghost stands_for = { λ form. K.eq form.now };
 
@@ -94,7 +94,7 @@ impl<'s, T: Eq + Hash, A: Allocator, S: BuildHasher> KeyForm<Vec<T, A>, StdHash<
         key.items other.items };
 }
 
-/// A probe for the keys that a form stands for. Own.
+/// A probe for the keys that a form stands for.
 #[derive(Drop)]
 pub(crate) struct FormProbe<Q: Copy, H> {
     form: Q,
@@ -103,7 +103,7 @@ pub(crate) struct FormProbe<Q: Copy, H> {
 }
 
 impl<Q: Copy, H> FormProbe<Q, H> {
-    /// Returns a probe for a form, which hasn't compared a key yet.
+    /// Returns a probe for a form, which has compared no key yet.
     pub(crate) fn new(form: Q) -> Self
         ensures form { result.form ≡ form }
         ensures asked { result.asked ≡ 0 }
@@ -129,7 +129,7 @@ impl<K: Eq, H: KeyHash<K>, Q: KeyForm<K, H>> KeyProbe<K> for FormProbe<Q, H> {
 
 /// Returns the value under the keys that a form stands for; `None` if a table has none of them.
 ///
-/// Moves nothing, and takes no memory. O(1) expected.
+/// Moves no pairs and allocates nothing. O(1) expected.
 #[inline(always)]
 pub(crate) fn value_by<K: Eq, V, H: KeyHash<K>, L: LruList, Q: KeyForm<K, H>, const TYPE: u8>(
     table: &HashTable<K, V, H, L, TYPE>,
@@ -144,7 +144,7 @@ pub(crate) fn value_by<K: Eq, V, H: KeyHash<K>, L: LruList, Q: KeyForm<K, H>, co
 /// Returns the value under the keys that a form stands for, which have this hash; `None` if a table
 /// has none of them.
 ///
-/// Moves nothing, and takes no memory. O(1) expected.
+/// Moves no pairs and allocates nothing. O(1) expected.
 #[inline(always)]
 pub(crate) fn value_hashed<K: Eq, V, H: KeyHash<K>, L: LruList, Q: KeyForm<K, H>, const TYPE: u8>(
     table: &HashTable<K, V, H, L, TYPE>,
@@ -164,7 +164,7 @@ pub(crate) fn value_hashed<K: Eq, V, H: KeyHash<K>, L: LruList, Q: KeyForm<K, H>
 /// Returns the pair under the keys that a form stands for: the table's own key, and its value;
 /// `None` if the table has none of them.
 ///
-/// Moves nothing, and takes no memory. O(1) expected.
+/// Moves no pairs and allocates nothing. O(1) expected.
 #[inline(always)]
 pub(crate) fn pair_by<K: Eq, V, H: KeyHash<K>, L: LruList, Q: KeyForm<K, H>, const TYPE: u8>(
     table: &HashTable<K, V, H, L, TYPE>,

@@ -1,8 +1,8 @@
 //! Collections over one bucketed hash table: a map, a set, an index whose removed pairs stay as
 //! tombstones until their bucket needs room, and a cache that evicts.
 //!
-//! A user sees keys, values and allocation failures; no array, no rehash. `CALLING.md` has the call
-//! for each of std's, and `PROVING.md` the contracts.
+//! A user sees keys, values and allocation failures, but neither arrays nor a rehash. `CALLING.md`
+//! lists the counterpart of each std call, and `PROVING.md` the contracts.
 //!
 //! Ports the surface of scc 3.8.8's `HashMap`, `HashSet`, `HashIndex` and `HashCache` to owned
 //! collections: a call borrows where scc locks. SPDX-License-Identifier: Apache-2.0

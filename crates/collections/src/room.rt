@@ -1,14 +1,14 @@
-//! That a table fits in memory, which is known when a collection is made, and kept.
+//! A token which states that a table fits in memory: made with the collection, and kept in it.
 //!
-//! A table's calls require that its type is smaller than 2^63 bytes. Generic code that doesn't name
-//! the table's type in its signature has to prove that. A collection therefore keeps a token of it.
+//! A table's calls require that its type is smaller than 2^63 bytes. Generic code whose signature
+//! doesn't name the table's type has to prove that. A collection therefore keeps a token of it.
 use bucket_slots::lru::LruList;
 use bucket_table::key_hash::KeyHash;
 use std::marker::{Model, PhantomData};
 
-/// Says of a type that it fits in memory.
+/// The statement that a type fits in memory.
 pub(crate) trait Room {
-    /// That the type fits in memory.
+    /// States that the type fits in memory.
     ghost Fits: { Type 0 };
 }
 
@@ -42,7 +42,7 @@ impl<R: Room> Fits<R> {
     }
 }
 
-/// That the table of a collection fits in memory.
+/// The statement that the table of a collection fits in memory.
 pub(crate) struct TableRoom<K, V, H, L, const TYPE: u8>(PhantomData<(K, V, H, L)>);
 
 impl<K: Eq, V, H: KeyHash<K>, L: LruList, const TYPE: u8> Room for TableRoom<K, V, H, L, TYPE> {

@@ -1,4 +1,4 @@
-//! How many slots a number of pairs takes.
+//! How many slots a number of pairs needs.
 ghost use Rattle.std.specs.Int.{IsPowerOfTwo};
 ghost use Rattle.std.specs.Prelude.{◌≡◌, ◌≤◌, ◌↔◌, ◌^◌, IsTrue, MatchOption, max, min};
 ghost use Rattle.bucket_slots.specs.Sizing.{IsLeastPowerOfTwo, IsTooFull};
@@ -10,7 +10,7 @@ use bucket_table::hash_table::MAXIMUM_CAPACITY_LIMIT;
 /// The least number of slots that an array has.
 pub(crate) const LEAST_CAPACITY: usize = 64;
 
-/// Returns the greatest maximum that a collection can have, 2^63 slots.
+/// Returns the largest maximum that a collection can have, 2^63 slots.
 pub(crate) fn widest() -> usize
     ensures power { IsPowerOfTwo result }
     ensures value { result ≡ 2 ^ 63 }
@@ -18,7 +18,7 @@ pub(crate) fn widest() -> usize
     MAXIMUM_CAPACITY_LIMIT
 }
 
-/// Returns the size of an array with at least a number of slots: 64, or a power of two up to 2^63.
+/// Returns the least power of two that is at least `slots` and 64, limited to 2^63.
 pub(crate) fn size_for(slots: usize) -> usize
     ensures least { IsLeastPowerOfTwo (min (max slots 64) (2 ^ 63)) result }
     ensures power { IsPowerOfTwo result }
@@ -30,15 +30,15 @@ pub(crate) fn size_for(slots: usize) -> usize
         .next_power_of_two()
 }
 
-/// Tests whether a number of pairs takes more than 13 of 16 slots.
+/// Returns `true` if `pairs` pairs fill more than 13/16 of `slots` slots.
 pub(crate) fn is_too_full(slots: usize, pairs: usize) -> bool
     ensures { IsTrue result ↔ IsTooFull slots pairs }
 {
     pairs > (slots / 16) * 13
 }
 
-/// Returns the least number of slots of an array of which a number of pairs takes no more than 13
-/// of 16; `None` if they are too many for every array.
+/// Returns the fewest slots of an array that `pairs` pairs fill to at most 13/16; `None` if they
+/// are too many for every array.
 pub(crate) fn slots_for(pairs: usize) -> Option<usize>
     ensures { MatchOption result (AreTooMany pairs) (IsSlotsFor pairs) }
 {
@@ -49,7 +49,7 @@ pub(crate) fn slots_for(pairs: usize) -> Option<usize>
     Some(wanted.max(LEAST_CAPACITY).next_power_of_two())
 }
 
-/// Returns the minimum of a map whose first array is to have room for a number of pairs.
+/// Returns the minimum of a map whose first array is to have room for `pairs` pairs.
 pub(crate) fn minimum_for(pairs: usize) -> usize
     ensures { IsMinimumFor pairs result }
 {

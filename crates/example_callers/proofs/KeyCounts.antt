@@ -18,11 +18,11 @@ use Rattle.example_callers.specs.Counts.{Counts, unless_zero}
 pub unless_zero-more : (n : ℕ) → unless_zero (n + 1) ≡ Some (n + 1)
 unless_zero-more n = grind arith
 
--- a number that is there is the count
+-- a number that is present is the count
 pub count_from_there : (n m : ℕ) → unless_zero n ≡ Some m → n ≡ m
 count_from_there n m there = grind (arith, there)
 
--- where there is no number, nothing is counted
+-- if there is no number, nothing is counted
 pub count_from_none : (n : ℕ) → unless_zero n ≡ None → n ≡ 0
 count_from_none n none = grind (arith, none)
 
@@ -59,7 +59,7 @@ module _ {K H : Type 0} (eq : K → K → Bool) (laws : IsEquivalence eq) where
 
   module _ (keys : List K) (place : ℕ) (key : K) (old : MapView K ℕ H) (below : place < length keys) (item : key ≡ get_or keys place key)
       (counts : Counts eq (take place keys) old) (changes : Bor K → MutBor ℕ → Unit {0} → MutBor ℕ → Type 0) where
-    -- a key that is there is counted once more
+    -- a key that is present is counted once more
     pub counts_raised : length keys < 2 ^ 64
         → ((own : Bor K) (before after : MutBor ℕ) → changes own before tt after → after.now ≡ min (before.now + 1) (2 ^ 64 - 1))
         → (raised : Option (Unit {0})) (new : MapView K ℕ H) → is_some raised ≡ true → Rewrites eq (eq key) changes old raised new

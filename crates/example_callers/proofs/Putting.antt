@@ -1,4 +1,4 @@
--- What a put after a look-up says of the map before both.
+-- What a put after a look-up says about the map before both.
 use Rattle.std.proofs.Common.{◌≡◌, Bool, false, cond, Option, Some, None, is_some, IsSome, Result, Ok, Err, sym, ap, subst, ◌∙◌}
 use Rattle.std.specs.Borrow.{Bor}
 use Rattle.std.specs.Cmp.{IsEquivalence}
@@ -31,12 +31,12 @@ module _ {U S H : Type 0} (eq : U → U → Bool) (old between : MapView U S H) 
     };
   }
 
-  -- what a put that is refused leaves
+  -- what a put that fails leaves
   pub refused_stays : (user : U) (fresh : S) (put : Result (Option (U × S)) (NotInserted U S)) (why : NotInserted U S) (new : MapView U S H)
       → put ≡ Err why → Puts eq user fresh between put new → Stays eq old new
   refused_stays user fresh put why new is done = stays_joined new (subst (λ p. Puts eq user fresh between p new) is done).1
 
-  -- what a put that is done gives
+  -- what a put that succeeds gives
   pub put_session : IsEquivalence eq → (user : U) (fresh : S) (put : Result (Option (U × S)) (NotInserted U S)) (gone : Option (U × S))
       (new : MapView U S H) → put ≡ Ok gone → Puts eq user fresh between put new → HasSession eq user fresh gone old new
   put_session laws user fresh put gone new is done = from gone (subst (λ p. Puts eq user fresh between p new) is done)

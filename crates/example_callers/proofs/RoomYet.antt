@@ -69,7 +69,7 @@ module _ {K V H : Type 0} (eq : K → K → Bool) (hash_of : H → K → ℕ) wh
       ];
     }
 
-    -- and a pair that was refused
+    -- and a pair whose insertion failed
     pub refused : (k : K) → Stays eq old new → LacksRoom hash_of k old → HasCrowdedBucket (hash_of hasher) pairs new
     unfolding LacksRoom
     refused k stays lacks = elim has.room [
@@ -91,7 +91,7 @@ module _ {K V H : Type 0} (eq : K → K → Bool) (hash_of : H → K → ℕ) wh
             let all = homed-permutation (hash_of hasher) len index old.entries new.entries stays.entries in
             record { slots = slots; enough = has.enough; key = key; crowded = (crowded.0, omega (arith, all, crowded.1)) }
 
--- the pair that comes back is the one that was handed in
+-- the pair that is returned is the one that was passed in
 pub handed_back : {K V H : Type 0} (eq : K → K → Bool) (key : K) (value : V) (map : MapView K V H) {why : NotInserted K V} {k : K} {v : V}
     → why ≡ Memory k v → HandsBack eq key value map why → why ≡ Memory key value
 handed_back eq key value map is back =

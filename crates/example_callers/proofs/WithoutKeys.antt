@@ -11,7 +11,7 @@ use Rattle.collections.specs.Changes.{TakesOut, Updates}
 use Rattle.collections.specs.Maps.{MapView, get}
 use Rattle.example_callers.specs.Without.{IsWithout}
 
--- what a key has that is out of a list or equal to one more
+-- the value of a key that is outside a list or equal to one more
 or_none : {V : Type 0} (was same : Bool) (value : Option V) → cond same None (cond was None value) ≡ cond (was || same) None value
 or_none true true value = refl
 or_none true false value = refl
@@ -19,7 +19,7 @@ or_none false true value = refl
 or_none false false value = refl
 
 module _ {K V H : Type 0} (eq : K → K → Bool) (laws : IsEquivalence eq) where
-  -- a key that is taken out, or that isn't there, has no value
+  -- a key that is removed, or that is absent, has no value
   pub updates_out : (key : K) (old : MapView K V H) (removed : Bool) (new : MapView K V H) → TakesOut eq (eq key) old removed new
       → Updates eq old (eq key) None new
   updates_out key old true new done q = done.1.updates q
@@ -39,7 +39,7 @@ module _ {K V H : Type 0} (eq : K → K → Bool) (laws : IsEquivalence eq) wher
       ∙ ap (λ (b : Bool). cond b None (get eq first q))
       (ap (λ (k : K). list_any (eq q) (take place keys) || eq q k) item ∙ sym (list_any_more (eq q) keys place key below))
 
--- marks that come in two steps
+-- tombstones that come in two steps
 pub marks_joined : {K V : Type 0} (epoch : ℕ) (old between new : List ((K × V) × ℕ)) → MarksBy epoch old between
     → MarksBy epoch between new → MarksBy epoch old new
 marks_joined epoch old between new one two = record {

@@ -4,7 +4,7 @@ use Rattle.std.specs.List.{count_by}
 use Rattle.collections.specs.Changes.{Updates}
 use Rattle.collections.specs.Maps.{MapView, get, get_by}
 
--- a number, where there is something to count
+-- a number, if there is something to count
 abbrev pub unless_zero : ℕ → Option ℕ
 unless_zero number = if number == 0 then None else Some number
 
@@ -17,6 +17,6 @@ module _ {K H : Type 0} (eq : K → K → Bool) where
   abbrev pub CountsFirst : List K → MapView K ℕ H → Type 0
   CountsFirst keys counts = (place : ℕ) × Counts (take place keys) counts
 
-  -- the key that is wanted is counted once more, 0 if the map hasn't it, and each other key has what it had
+  -- the matching key is counted once more, from 0 if the map does not contain it, and each other key has what it had
   abbrev pub CountsOneMore : (K → Bool) → MapView K ℕ H → MapView K ℕ H → Type 0
   CountsOneMore wants old new = Updates eq old wants (Some (min (unwrap_or (get_by wants old) 0 + 1) (2 ^ 64 - 1))) new

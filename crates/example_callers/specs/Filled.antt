@@ -1,4 +1,4 @@
--- Why a map isn't filled for which room was made.
+-- Why filling a map for which room was made fails.
 use Rattle.std.specs.Prelude.{ℕ}
 use Rattle.bucket_slots.specs.Sizing.{IsTooFull}
 use Rattle.collections.specs.Crowding.{HasAtHome}
@@ -6,7 +6,7 @@ use Rattle.collections.specs.Maps.{MapView}
 use Rattle.example_callers.specs.declared.filling.NotFilled.{NotFilled}
 use Rattle.example_callers.specs.declared.filling.NotFilled.TheVariants.{Crowded, NoRoom, Twice}
 
--- although the slots have room for so many pairs, the bucket of some key is the home of 31 of the map's pairs
+-- although the slots have room for that many pairs, the bucket of some key is the home of 31 of the map's pairs
 pub record HasCrowdedBucket {K V H : Type 0} (hash : K → ℕ) (pairs : ℕ) (map : MapView K V H) : Type 0 where
   pub slots : ℕ
   pub enough : IsTooFull slots pairs → ⊥

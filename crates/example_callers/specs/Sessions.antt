@@ -1,4 +1,4 @@
--- A session that a user has, or is given.
+-- A session that a user has, or gets.
 use Rattle.std.specs.Prelude.{◌≡◌, Bool, cond, false, Option, Some, None, IfSome}
 use Rattle.std.specs.Option.{unwrap_or}
 use Rattle.collections.specs.Maps.{MapView, get}

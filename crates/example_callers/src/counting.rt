@@ -1,4 +1,4 @@
-//! Counting the keys of a list, as one counts words.
+//! Counting the keys of a list, as in counting words.
 ghost use Rattle.std.specs.Prelude.{OnErr, OnOk};
 ghost use Rattle.collections.specs.Maps.{IsEmpty, IsUnique};
 ghost use Rattle.example_callers.specs.Counts.{Counts, CountsFirst};
@@ -7,13 +7,13 @@ use bucket_table::key_hash::KeyHash;
 use collections::hash_map::HashMap;
 use std::alloc::AllocError;
 
-/// Counts how often each key is in a list, in a map that is empty.
+/// Counts in an empty map how often each key is in a list.
 ///
 /// # Errors
 ///
 /// Allocation failure: the map counts a prefix of the list.
 ///
-/// O(keys) expected. Own.
+/// O(keys) expected.
 pub fn count_keys<K: Eq + Copy, H: KeyHash<K>>(
     counts: &mut HashMap<K, u64, H>,
     keys: &[K],

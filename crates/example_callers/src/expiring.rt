@@ -7,7 +7,7 @@ use collections::hash_map::HashMap;
 /// Removes a session that has ended before a time, the first in the order of the view, and returns
 /// it with its end; `None` if none has ended. The other sessions stay.
 ///
-/// Never fails. O(slots). Own.
+/// Never fails. O(slots).
 pub fn take_expired(sessions: &mut HashMap<u64, u64>, time: u64) -> Option<(u64, u64)>
     ensures taken { IfSome result (λ session. (session.1 < time)
         × ((front behind : List (ℕ × ℕ))

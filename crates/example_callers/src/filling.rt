@@ -24,7 +24,7 @@ pub enum NotFilled {
 /// Allocating the room failed, a key is present already, or allocation failed for a crowded bucket:
 /// the pairs before that one are in the map.
 ///
-/// O(pairs) expected, and O(slots). Own.
+/// O(pairs) expected, and O(slots).
 pub fn fill<K: Eq + Copy, V: Copy, H: KeyHash<K>>(
     map: &mut HashMap<K, V, H>,
     pairs: &[(K, V)],

@@ -11,7 +11,7 @@ use std::alloc::AllocError;
 ///
 /// Allocation failure: the key may be new, and have no number.
 ///
-/// O(1) expected, plus any resize. Own.
+/// O(1) expected, plus any resize.
 pub fn group(groups: &mut HashMap<u64, Vec<u64>>, key: u64, number: u64) -> Result<(), AllocError>
     ensures { OnOk result (MatchOption (get ⟦<u64 as PartialEq>⟧.eq groups.new key) ⊥ (λ numbers.
         MatchOption (get ⟦<u64 as PartialEq>⟧.eq groups.old key) (numbers.items ≡ number ∷ [])
@@ -21,9 +21,9 @@ pub fn group(groups: &mut HashMap<u64, Vec<u64>>, key: u64, number: u64) -> Resu
     Ok(())
 }
 
-/// Replaces the value of a key, and returns whether the map has the key.
+/// Replaces the value of a key, and returns whether the map contains the key.
 ///
-/// O(1) expected. Own.
+/// O(1) expected.
 pub fn overwrite(map: &mut HashMap<u64, u64>, key: u64, value: u64) -> bool
     ensures found { result ≡ contains ⟦<u64 as PartialEq>⟧.eq map.old key }
     ensures written { IsTrue result → get ⟦<u64 as PartialEq>⟧.eq map.new key ≡ Some value }

@@ -9,7 +9,7 @@ use collections::hash_map::HashMap;
 /// Why a count stays as it is.
 #[derive(Clone, Copy, Debug, PartialEq, Eq)]
 pub enum NotMoved {
-    /// The sum would pass the greatest `u64`.
+    /// The sum would exceed the greatest `u64`.
     TooMany,
     /// More would be taken than the name holds.
     TooFew,
@@ -28,9 +28,9 @@ pub struct Move<K> {
     pub count: u64,
 }
 
-/// Returns how many of a name are held: 0 if the map hasn't it.
+/// Returns how many of a name are held: 0 if the map does not contain the name.
 ///
-/// O(1) expected. Own.
+/// O(1) expected.
 pub fn held<K: Eq, H: KeyHash<K>>(counts: &HashMap<K, u64, H>, name: &K) -> u64
     ensures { result ≡ held K.eq counts.now name.now }
 {
@@ -43,7 +43,7 @@ pub fn held<K: Eq, H: KeyHash<K>>(counts: &HashMap<K, u64, H>, name: &K) -> u64
 ///
 /// The sum doesn't fit, or allocation failed: each name holds what it held.
 ///
-/// O(1) expected, plus any resize. Own.
+/// O(1) expected, plus any resize.
 pub fn add<K: Eq + Drop, H: KeyHash<K>>(
     counts: &mut HashMap<K, u64, H>,
     name: K,
@@ -68,7 +68,7 @@ pub fn add<K: Eq + Drop, H: KeyHash<K>>(
 ///
 /// More would be taken than the name holds: each name holds what it held.
 ///
-/// O(1) expected. Own.
+/// O(1) expected.
 pub fn take<K: Eq + Drop, H: KeyHash<K>>(
     counts: &mut HashMap<K, u64, H>,
     name: &K,
@@ -85,14 +85,14 @@ pub fn take<K: Eq + Drop, H: KeyHash<K>>(
     Ok(left)
 }
 
-/// Makes the moves of a list in order. Each name then holds what it held, and what was added to it
-/// less what was taken.
+/// Makes the moves of a list in order. Each name then holds what it held, plus what was added to
+/// it, less what was taken.
 ///
 /// # Errors
 ///
-/// A move can't be made: those before it were made.
+/// A move can't be made: those before it are made.
 ///
-/// O(moves) expected, plus any resizes. Own.
+/// O(moves) expected, plus any resizes.
 pub fn settle<K: Eq + Copy, H: KeyHash<K>>(
     counts: &mut HashMap<K, u64, H>,
     moves: &[Move<K>],

@@ -10,9 +10,9 @@ use bucket_table::key_hash::KeyHash;
 use collections::hash_index::HashIndex;
 
 /// Removes the keys of a list from an index, and returns how many keys of another list it still
-/// has. Each removed pair stays as a tombstone, which `contains` doesn't see.
+/// contains. Each removed pair stays as a tombstone, which `contains` doesn't see.
 ///
-/// Never fails. O(keys) expected, plus any resize. Own.
+/// Never fails. O(keys) expected, plus any resize.
 pub fn retire_keys<K: Eq + Drop, V: Drop, H: KeyHash<K>>(
     index: &mut HashIndex<K, V, H>,
     retired: &[K],

@@ -13,9 +13,9 @@ use collections::hash_cache::{HashCache, NotInserted};
 ///
 /// # Errors
 ///
-/// Allocation failure: the fresh session is returned, and the cache has the same sessions.
+/// Allocation failure: the fresh session is returned, and the cache keeps the same sessions.
 ///
-/// O(1) expected, plus any resize. Own.
+/// O(1) expected, plus any resize.
 pub fn session_for<U: Eq + Drop, S: Drop, H: KeyHash<U>>(
     cache: &mut HashCache<U, S, H>,
     user: U,

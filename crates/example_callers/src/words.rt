@@ -11,9 +11,9 @@ use std::alloc::{AllocError, Global};
 ///
 /// # Errors
 ///
-/// Allocation failure, for the key or for the map: the map has the counts that it had.
+/// Allocation failure, for the key or for the map: the map keeps its counts.
 ///
-/// O(word) expected, plus any resize. Own.
+/// O(word) expected, plus any resize.
 pub fn count_word(
     counts: &mut HashMap<String, u64>,
     word: &str,

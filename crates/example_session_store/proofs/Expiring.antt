@@ -1,4 +1,4 @@
--- What is left where the sessions that have expired are dropped.
+-- What is left if the sessions that have expired are dropped.
 use Rattle.std.proofs.Common.{ℕ, ◌≡◌, ◌∙◌, Bool, true, false, if◌then◌else◌, not, nat_eq, Option, Some, None, List, [], ◌∷◌, inl, inr}
 use Rattle.std.proofs.Common.{refl, ap}
 use Rattle.std.specs.Borrow.{Bor, MutBor}
@@ -24,7 +24,7 @@ module _ {S K V : Type 0} (step : S → Bor K → MutBor V → Bool → MutBor V
     one_more true pair kept rest same is = ap (λ l. pair ∷ l) is ∙ ap (λ (b : Bool). if b then pair ∷ left_of rest else left_of rest) same
     one_more false pair kept rest same is = is ∙ ap (λ (b : Bool). if b then pair ∷ left_of rest else left_of rest) same
 
-    -- a function that answers by a test of the value, and leaves it, keeps those that pass
+    -- a function that returns the result of a test of the value, and leaves the value, keeps those that pass
     pub retained_by : (first : S) (pairs left : List (K × V)) (last : S) → IsKept first → RetainsEach step first pairs left last
         → left ≡ filter (λ pair. test pair.1) pairs
     retained_by first [] left last kept asked = asked.0

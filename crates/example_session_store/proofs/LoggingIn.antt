@@ -1,4 +1,4 @@
--- What a session that is put leaves.
+-- What putting a session leaves.
 use Rattle.std.proofs.Common.{ℕ, ◌≡◌, nat_eq, Option, Some, None, Ok, subst}
 use Rattle.collections.specs.Changes.{Puts}
 use Rattle.collections.specs.Maps.{map_of}

@@ -1,4 +1,4 @@
--- What a deadline that is written leaves.
+-- What writing a deadline leaves.
 use Rattle.std.proofs.Common.{ℕ, ◌≡◌, ◌∙◌, Bool, true, false, cond, nat_eq, Some, None, inl, inr, refl, sym, ap}
 use Rattle.std.proofs.lemmas.Bool.{cases_Bool}
 use Rattle.std.proofs.lemmas.Cmp.{nat_eq_equiv}
@@ -16,7 +16,7 @@ module _ (token now : ℕ) (old new : Store) (session later : Session) (own : �
   had : (is : Bool) → test ≡ is → alive now (session_at old token) ≡ cond is None (Some session)
   had is tested = ap (alive now) writes.value ∙ ap (λ (b : Bool). cond b None (Some session)) (sym says ∙ tested)
 
-  -- the deadline of a session that hasn't expired is put off
+  -- the deadline of a session that hasn't expired is extended
   pub renewed : test ≡ false → (deadline : ℕ) → deadline ≡ deadline_at old now → later ≡ record session { deadline = deadline }
       → Renews token now (Some deadline) old new
   renewed fresh deadline at is = rw (had false fresh) (

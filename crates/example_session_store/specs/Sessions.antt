@@ -7,7 +7,7 @@ use Rattle.example_session_store.specs.declared.store.NotLoggedIn.TheVariants.{N
 use Rattle.example_session_store.specs.declared.store.Session.{Session}
 use Rattle.example_session_store.specs.declared.store.Store.{Store}
 
--- the session of a token, also if it has expired
+-- the session of a token, even if it has expired
 abbrev pub session_at : Store → ℕ → Option Session
 session_at store token = get nat_eq (map_of store.sessions) token
 
@@ -40,7 +40,7 @@ deadline_at store now = min (now + store.lifetime) (2 ^ 64 - 1)
 abbrev pub sessions_with : ℕ → Option Session → (ℕ → Option Session) → ℕ → Option Session
 sessions_with token session sessions other = cond (nat_eq token other) session (sessions other)
 
--- each token has what it had, but for the one whose session was evicted
+-- each token has what it had, except the one whose session was evicted
 abbrev pub sessions_without : Option (ℕ × Session) → (ℕ → Option Session) → ℕ → Option Session
 sessions_without None sessions = sessions
 sessions_without (Some evicted) sessions = sessions_with evicted.0 None sessions
@@ -50,7 +50,7 @@ pub record Becomes (sessions : ℕ → Option Session) (old new : Store) : Type 
   pub each : (token : ℕ) → session_at new token ≡ sessions token
   pub lifetime : new.lifetime ≡ old.lifetime
 
--- a token that had no session has this one, and at most one other session is gone, the one that was evicted
+-- a token that had no session has this one, and at most one other session is missing, the one that was evicted
 pub record LogsIn (token : ℕ) (session : Session) (evicted : Option (ℕ × Session)) (old new : Store) : Type 0 where
   pub fresh : session_at old token ≡ None
   pub was : IfSome evicted (λ pair. session_at old pair.0 ≡ Some pair.1)

@@ -17,7 +17,7 @@ use std::alloc::Global;
 /// A session.
 #[derive(Debug, Drop)]
 pub struct Session {
-    /// Whose it is.
+    /// The user whose session it is.
     pub user: String,
     /// The time at which it expires.
     pub deadline: u64,
@@ -49,7 +49,7 @@ pub struct Store {
 
 impl Store {
     /// Returns an empty store of `slots` slots, 64 or the next power of two, whose sessions last
-    /// for `lifetime` after each use. Takes no memory.
+    /// for `lifetime` after each use. Allocates nothing.
     pub fn new(alloc: Global, slots: usize, lifetime: u64) -> Self
         ensures empty { (token : ℕ) → session_at result token ≡ None }
         ensures lifetime { result.lifetime ≡ lifetime }
@@ -60,7 +60,7 @@ impl Store {
         }
     }
 
-    /// Returns how many sessions there are, those that have expired among them. O(1).
+    /// Returns the number of sessions, including those that have expired. O(1).
     pub fn len(&self) -> usize
         ensures { result ≡ len_of self.now }
     {

@@ -1,4 +1,4 @@
-//! What is in stock, and what was shown last.
+//! The stock, and what was shown last.
 use collections::hash_cache::HashCache;
 use collections::hash_map::HashMap;
 use example_callers::ledger::{self, NotMoved};

@@ -1,4 +1,4 @@
--- What the first line of a text is, and what stands behind it.
+-- What the first line of a text is, and what follows it.
 use Rattle.std.proofs.Common.{ℕ, suc, ◌≡◌, ◌+◌, ◌<◌, ◌==◌, inl, inr, Bool, false, List, [], ◌∷◌, ◌++◌, length, take, drop, map}
 use Rattle.std.proofs.Common.{append_assoc, refl, sym, ap, ◌∙◌, nat_lt, not, unwrap_or, arith}
 use Rattle.std.specs.List.{onto_first, position, position_or_len}
@@ -16,7 +16,7 @@ unwrap_or-position p xs = elim (cases_Bool (nat_lt (position_or_len p xs) (lengt
       rw outside (omega (arith, least, prefix_len-le-length (λ x. not (p x)) xs))
 ]
 
--- another byte than a newline stands in front
+-- a byte other than a newline comes first
 first_grows : (byte n : ℕ) (bytes : List ℕ) → lines_of bytes ≡ take n bytes ∷ lines_of (drop (n + 1) bytes)
     → onto_first byte (lines_of bytes) ≡ take (1 + n) (byte ∷ bytes) ∷ lines_of (drop (1 + n + 1) (byte ∷ bytes))
 first_grows byte n bytes behind =
@@ -26,7 +26,7 @@ first_grows byte n bytes behind =
     ∙ ap (λ (k : ℕ). take k (byte ∷ bytes) ∷ lines_of (drop (n + 1) bytes)) taken
     ∙ ap (λ (k : ℕ). take (1 + n) (byte ∷ bytes) ∷ lines_of (drop k (byte ∷ bytes))) dropped
 
--- the first line of some bytes, and the lines behind it
+-- the first line of some bytes, and the lines after it
 pub lines_of-first : (bytes : List ℕ) → 0 < length bytes
     → lines_of bytes ≡ take (position_or_len (λ byte. byte == 10) bytes) bytes
     ∷ lines_of (drop (position_or_len (λ byte. byte == 10) bytes + 1) bytes)

@@ -1,4 +1,4 @@
--- What is in an output, where the rows of a report are put one by one.
+-- What is in an output if the rows of a report are put one by one.
 use Rattle.std.proofs.Common.{ℕ, ◌≡◌, ◌+◌, ◌<◌, ◌∙◌, List, [], ◌∷◌, ◌++◌, length, map, take, get_or, Option, Some, None, Result, Ok, Err}
 use Rattle.std.proofs.Common.{OnOk, append-nil, ap, refl, subst, sym}
 use Rattle.std.proofs.KnownBytes.{Appends-kept, Appends-trans}
@@ -30,7 +30,7 @@ rows_put row items place d start old new waited waits below so_far put =
     (Appends-trans (append_known start []) (append_known old waited) (append_known new waits) (text_of (map row (take place items)))
     (text_of_row (row (get_or items place d))) so_far put)
 
--- what waits is written
+-- the waiting text is written
 pub written : (start old new last : Option (List ℕ)) (waited waits text : List ℕ) → HasPut start [] old waited text → waits ≡ []
     → HasPut old waited new waits [] → Keeps new last → Appends start last text
 written start old new last waited waits text put none out kept =

@@ -47,7 +47,7 @@ in_front row other sorted apart = row_cmp_total.antisymm row other ∙ from (row
         absurd cc
     from Greater is late = refl
 
--- sorted rows of lines that are apart stand strictly in order
+-- sorted rows of distinct lines are in strict order
 strictly_sorted : (rows : List Row) → IsSorted row_cmp rows → IsDistinct same_line rows → IsStrictlySortedBy row_cmp rows
 strictly_sorted [] sorted apart =
     sorted_from_all_adjacent row_cmp_total [] (record { count = 0; line = [] }) (λ k below. absurd (omega arith))
@@ -68,7 +68,7 @@ rows_sorted row cmp same (x ∷ xs) sorted = λ k d low below.
     ∙ ap (λ r. is_lt (row_cmp (row next) r)) (get_or-map row (x ∷ xs) k x d (omega arith))
     ∙ ap is_lt (sym (same next this)) ∙ sorted k x low inside
 
--- a number that is there is the count, and isn't zero
+-- a number that is present is the count, and isn't zero
 counted : (n m : ℕ) → unless_zero n ≡ Some m → (0 < m) × (m ≡ n)
 counted n m there = (grind (arith, there), grind (arith, there))
 
@@ -114,7 +114,7 @@ module _ {K : Type 0} (bytes : K → List ℕ) where
         let is = counted (count_by (same_key pair.0) keys) pair.1 (sym (counts pair.0) ∙ found) in
         (is.0, is.1 ∙ count_bytes (bytes pair.0) keys)
 
-    -- a key that is there has a pair
+    -- a key that is present has a pair
     key_there : (place : ℕ) (key : K) → place < length keys → key ≡ get_or keys place key
         → Contains (map (λ row. row.line) (map row_with pairs)) (bytes key)
     key_there place key below is =

@@ -1,4 +1,4 @@
--- What a report's rows are, where each pair of a map was taken.
+-- The rows of a report, if each pair of a map was taken.
 use Rattle.std.proofs.Common.{ℕ, ◌∙◌, List, [], ◌∷◌, ◌++◌, append_assoc, ap, map, sym}
 use Rattle.std.specs.List.{FoldsTo}
 use Rattle.std.proofs.lemmas.List.{append-nil}

@@ -1,4 +1,4 @@
--- What the program answers.
+-- The output of the program.
 pub mod Lines
 pub mod Reports
 pub mod Rows

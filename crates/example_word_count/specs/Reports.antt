@@ -13,7 +13,7 @@ pub record Row : Type 0 where
   pub count : ℕ
   pub line : List ℕ
 
--- in falling order of the counts, and then in the order of the bytes
+-- in descending order of the counts, and then in the order of the bytes
 abbrev pub row_cmp : Row → Row → Ordering
 row_cmp row other = ordering_then (nat_cmp other.count row.count) (slice_cmp nat_cmp row.line other.line)
 

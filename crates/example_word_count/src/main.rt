@@ -1,5 +1,5 @@
-//! Counts the lines of its input: prints each distinct line once, after its count, in falling order
-//! of the counts and then in the order of the bytes.
+//! Counts the lines of its input: prints each distinct line once, after its count, in descending
+//! order of the counts and then in the order of the bytes.
 //!
 //! SPDX-License-Identifier: Apache-2.0
 #![tactic(auto)]
@@ -22,7 +22,7 @@ use std::process::ExitCode;
 
 /// Counts the lines of the input, and prints them.
 ///
-/// The input is read whole before a line is counted, so memory holds all of it.
+/// The whole input is read before a line is counted, so memory holds all of it.
 ///
 /// # Errors
 ///

@@ -16,7 +16,7 @@ use std::cmp::Reverse;
 use std::hash::{BuildHasherDefault, FoldHasher};
 use std::io::{self, Write};
 
-/// How many bytes may wait for the output: as many as in std's `BufWriter`.
+/// How many bytes may wait for the output: the same as in std's `BufWriter`.
 const WAITING_LEN: usize = 8192;
 
 /// At most 20 digits of a count, and the blank after them.
@@ -29,8 +29,8 @@ pub(crate) struct Counted<'a> {
     line: Line<'a>,
 }
 
-/// Returns each line once with its count, in falling order of the counts and then in the order of
-/// the bytes.
+/// Returns each line once with its count, in descending order of the counts and then in the order
+/// of the bytes.
 ///
 /// # Errors
 ///

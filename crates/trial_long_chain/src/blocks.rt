@@ -1,4 +1,4 @@
-//! Blocks of free slots, reserved and given up: with their bucket, by a kill, and by a clearing.
+//! Blocks of free slots, reserved and freed: with their bucket, by a kill, and by a clearing.
 use crate::by_key::{Counted, put_keys};
 use bucket_slots::bucket::{INDEX, MAP};
 use std::io;
@@ -7,15 +7,16 @@ use std::rc::Rc;
 /// How many blocks are reserved.
 const BLOCKS: usize = 100_000;
 
-/// The own slots, and those of the blocks: so many are free once the blocks are reserved.
+/// The own slots plus those of the blocks: that many are free after the blocks are reserved.
 const SLOTS: usize = 400_032;
 
 const _: () = prove!(SLOTS == 32 + 4 * BLOCKS);
 
-/// How many keys come: they fill the own slots and one block, and the last needs another block.
+/// How many keys are inserted: they fill the own slots and one block, and the last one needs
+/// another block.
 const KEYS: u64 = 37;
 
-/// The blocks go with their bucket, which has a few pairs.
+/// The blocks are freed with their bucket, which has a few pairs.
 pub(crate) fn drop_them(rt: &HostRuntime) -> io::Result<()> {
     let counted = Rc::new(rt.alloc(), 0)?;
     let mut bucket = reserved::<MAP>(rt)?;
@@ -25,7 +26,7 @@ pub(crate) fn drop_them(rt: &HostRuntime) -> io::Result<()> {
     println!(rt; "dropped: {} value is left", Rc::strong_count(&counted))
 }
 
-/// The blocks go with a kill of their bucket, so that pairs which come then need blocks again.
+/// The blocks are freed by a kill of their bucket, so that later pairs need blocks again.
 pub(crate) fn kill_them(rt: &HostRuntime) -> io::Result<()> {
     let counted = Rc::new(rt.alloc(), 0)?;
     let mut bucket = reserved::<MAP>(rt)?;
@@ -37,7 +38,7 @@ pub(crate) fn kill_them(rt: &HostRuntime) -> io::Result<()> {
     println!(rt; "{BLOCKS} blocks killed: the last of {KEYS} pairs is in block {block}")
 }
 
-/// The blocks of an index go with a clearing.
+/// The blocks of an index are freed by a clearing.
 pub(crate) fn clear_them(rt: &HostRuntime) -> io::Result<()> {
     let counted = Rc::new(rt.alloc(), 0)?;
     let mut bucket = reserved::<INDEX>(rt)?;
@@ -47,7 +48,7 @@ pub(crate) fn clear_them(rt: &HostRuntime) -> io::Result<()> {
     println!(rt; "the last of {KEYS} pairs is in block {block}")
 }
 
-/// A bucket with these blocks, whose slots are all free.
+/// Returns a bucket with these blocks, whose slots are all free.
 fn reserved<const TYPE: u8>(rt: &HostRuntime) -> io::Result<Counted<TYPE>> {
     let mut bucket = Counted::<TYPE>::new(rt.alloc());
     match bucket.reserve_slots(SLOTS) {

@@ -1,4 +1,4 @@
-//! Calls on a bucket of counted values whose keys have one hash.
+//! Calls on a bucket of counted values whose keys have the same hash.
 ghost use Rattle.std.specs.Prelude.{◌≢◌, IfSome, IsTrue};
 ghost use Rattle.bucket_slots.specs.BucketView.{slot_in};
 ghost use Rattle.bucket_slots.specs.Slots.{is_live};
@@ -41,7 +41,7 @@ pub(crate) fn find<const TYPE: u8>(
     if at.is_valid() { Some(at) } else { None }
 }
 
-/// Takes out the pair of a key and drops it, and returns whether there was one.
+/// Removes the pair of a key and drops it, and returns whether there was one.
 pub(crate) fn remove_key<const TYPE: u8>(bucket: &mut Counted<TYPE>, key: u64) -> bool
     requires not_index { TYPE ≢ INDEX }
 {

@@ -1,7 +1,7 @@
-//! Buckets with long chains: blocks that are reserved and given up, and pairs of one hash. It
-//! prints a line for each part.
+//! Buckets with long chains: blocks that are reserved and freed, and pairs with one hash. It prints
+//! a line for each part.
 //!
-//! Nothing here calls itself or keeps an array, so that the chain alone can need much of a stack:
+//! Nothing here is recursive or keeps an array on the stack, so only the chain can need much stack:
 //! `trials/long_chain.sh` runs the program on a small one.
 #![tactic(auto)]
 

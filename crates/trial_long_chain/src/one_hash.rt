@@ -1,21 +1,20 @@
-//! Pairs of one hash: all of them are found and walked, most are removed, and the rest dropped.
+//! Pairs with one hash: all of them are found and walked, most are removed, and the rest dropped.
 use crate::by_key::{Counted, find, put_keys, remove_key};
 use bucket_slots::bucket::{EntryPtr, MAP};
 use std::io;
 use std::rc::Rc;
 
-/// How many keys come: they fill the own slots and 2,000 blocks.
+/// How many keys are inserted: they fill the own slots and 2,000 blocks.
 const KEYS: u64 = 8_032;
 
-/// The key that came first of those in the chain.
+/// The first key that was inserted into the chain.
 const FIRST: u64 = 32;
 
-/// Keys below the first are removed in the order in which they came: those of the chain from its
-/// last block. Keys from the second on are removed in reverse: each time the head has the pair.
+/// Keys below the first are removed in insertion order: those of the chain from its last block.
+/// Keys from the second on are removed in reverse order: each time the pair is in the head.
 const REMOVED: (u64, u64) = (3_000, 5_000);
 
-/// Puts the keys, finds and walks them, takes most of them out, and drops the others with the
-/// bucket.
+/// Puts the keys, finds and walks them, removes most of them, and drops the others with the bucket.
 pub(crate) fn come_and_go(rt: &HostRuntime) -> io::Result<()> {
     let counted = Rc::new(rt.alloc(), 0)?;
     let mut bucket = Counted::<MAP>::new(rt.alloc());
@@ -44,7 +43,7 @@ pub(crate) fn come_and_go(rt: &HostRuntime) -> io::Result<()> {
     println!(rt; "dropped: {} value is left", Rc::strong_count(&counted))
 }
 
-/// How many pairs a walk meets.
+/// How many pairs a walk visits.
 fn walk(bucket: &Counted<MAP>) -> u64 {
     let mut at = EntryPtr::null();
     let mut walked = 0u64;

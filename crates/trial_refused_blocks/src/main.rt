@@ -1,7 +1,7 @@
-//! Reserves slots in a new bucket, again and again. If no allocation fails, each call succeeds.
+//! Reserves slots in a new bucket, repeatedly. If no allocation fails, each call succeeds.
 //!
-//! `trials/refused_blocks.sh` lets allocations fail, which shows how many slots are free: so many
-//! can be reserved without an allocation, and no more.
+//! `trials/refused_blocks.sh` makes allocations fail, which shows how many slots are free: that
+//! many can be reserved without an allocation, and no more.
 #![tactic(auto)]
 
 use bucket_slots::bucket::{Bucket, MAP};

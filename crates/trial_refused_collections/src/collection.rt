@@ -17,7 +17,7 @@ pub(crate) enum Collection {
     Cache(HashCache<u64, u64, ScriptHash>),
 }
 
-/// The same call on any collection, or another one on a cache.
+/// Makes the same call on any collection, or a different one on a cache.
 macro_rules! on_each {
     ($collection:expr, $any:ident => $call:expr, $cache:pat => $of_cache:expr) => {
         match $collection {
@@ -30,7 +30,7 @@ macro_rules! on_each {
 }
 
 impl Collection {
-    /// One of each with its name, and no pair.
+    /// Returns one of each with its name, without pairs.
     pub(crate) fn all(alloc: Global, hasher: ScriptHash) -> [(&'static str, Self); 4] {
         let cache = HashCache::with_capacity(alloc, hasher, 0, 128);
         [
@@ -70,7 +70,7 @@ impl Collection {
         }
     }
 
-    /// The value under a key.
+    /// Returns the value under a key.
     pub(crate) fn value(&self, key: u64) -> Option<u64> {
         match self {
             Map(map) => map.get(&key).copied(),
@@ -80,7 +80,7 @@ impl Collection {
         }
     }
 
-    /// How many pairs its iterator yields, and how many its `len` says.
+    /// Returns how many pairs its iterator yields, and how many `len` reports.
     pub(crate) fn lens(&self) -> (usize, usize) {
         let mut came: usize = 0;
         let mut meet = |_key: &u64, _value: &u64| came = came.saturating_add(1);
@@ -93,13 +93,13 @@ impl Collection {
         (came, on_each!(self, any => any.len(), cache => cache.len()))
     }
 
-    /// Clears it, and returns whether it then has no slot.
+    /// Clears the collection, and returns whether it then has no slot.
     pub(crate) fn clear(&mut self) -> bool {
         on_each!(self, any => any.clear(), cache => cache.clear());
         on_each!(self, any => any.capacity(), cache => cache.capacity()) == 0
     }
 
-    /// Raises the minimum, where there is one, and returns whether it did.
+    /// Raises the minimum, if there is one, and returns whether it was raised.
     pub(crate) fn raise_minimum(&mut self, additional: usize) -> bool {
         on_each!(self, any => any.raise_minimum(additional) == additional, _ => true)
     }
@@ -113,8 +113,8 @@ impl Collection {
         }
     }
 
-    /// Sets the minimum to 0, and shrinks a map or a set to fit. Returns whether slots are left
-    /// exactly if there are pairs, or allocation failed.
+    /// Sets the minimum to 0, and shrinks a map or a set to fit. Returns `true` if slots are left
+    /// exactly if there are pairs, or if allocation failed.
     pub(crate) fn shrink_to_fit(&mut self) -> bool {
         match self {
             Map(map) => map.shrink_to_fit().is_err() || (map.capacity() == 0) == map.is_empty(),
@@ -127,7 +127,7 @@ impl Collection {
         }
     }
 
-    /// Copies a map or a set, by clones of its pairs or as they are; `None` of another collection.
+    /// Copies a map or a set, by clones of its pairs or as they are; `None` for another collection.
     ///
     /// # Errors
     ///

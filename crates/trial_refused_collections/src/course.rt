@@ -1,5 +1,6 @@
-//! A collection and what it must have, and calls on both. Times with many insertions and times with
-//! many removals alternate, so that the collection gets longer arrays and shorter ones again.
+//! A collection and its expected contents, and calls on both. Phases with many insertions and
+//! phases with many removals alternate, so that the collection gets longer arrays and shorter ones
+//! again.
 mod copying;
 mod extending;
 mod resizing;
@@ -12,18 +13,18 @@ use test_helpers::{Chance, FewKeys, KEYS};
 // How many calls mostly insert pairs, and how many then mostly remove them.
 const TIDE: u64 = 4000;
 
-// After how many calls the collection is compared as a whole and copied, and one call is made on
-// all of it.
+// After how many calls the whole collection is compared and copied, and one call is made on all of
+// it.
 const WHOLE: u64 = 250;
 
-// An odd number with its bits spread, so that keys take homes all over the array.
+// An odd number whose set bits are spread out, so that keys have homes all over the array.
 const SPREADING: u64 = 11400714819323198485;
 
-// Times the other number this is 1, modulo 2^64.
+// The inverse of the number above, modulo 2^64.
 const GATHERING: u64 = 17428512612931826493;
 
-/// A collection, what it must have, how often a pair was inserted, failed to be inserted, and was
-/// evicted, and how often it was copied, and failed to be copied.
+/// A collection, its expected contents, how often a pair was inserted, failed to be inserted, and
+/// was evicted, and how often the collection was copied, and failed to be copied.
 #[derive(Drop)]
 pub(crate) struct Course {
     collection: Collection,
@@ -37,7 +38,7 @@ pub(crate) struct Course {
 }
 
 impl Course {
-    /// The collection has no pair.
+    /// Returns the state of a collection without pairs.
     pub(crate) fn new(collection: Collection) -> Self {
         Course {
             collection,
@@ -52,7 +53,7 @@ impl Course {
     }
 
     /// Makes a number of calls, up to the first with a wrong result. Returns whether there was none
-    /// and the collection has the right pairs.
+    /// and the collection has the expected pairs.
     pub(crate) fn play(&mut self, calls: u64) -> bool {
         for number in 0..calls {
             if !self.call(number / TIDE % 2 == 0) {
@@ -66,14 +67,14 @@ impl Course {
     }
 
     /// Copies the collection and makes a call on all of it, and returns whether the results are
-    /// right and the collection has the right pairs before, between and after.
+    /// right and the collection has the expected pairs before, between and after.
     fn call_whole(&mut self, cloned: bool) -> bool {
         let is_copied = self.is_same() && self.copy(cloned) && self.is_same();
         is_copied && self.call_on_all() && self.is_same()
     }
 
-    /// Makes a call by a key, and returns whether its result is right. In times of insertions few
-    /// pairs are removed, in times of removals none is inserted.
+    /// Makes a call by key, and returns whether its result is right. In insertion phases few pairs
+    /// are removed; in removal phases none is inserted.
     fn call(&mut self, comes: bool) -> bool {
         let number = self.chance.next() % KEYS;
         let has_values = !matches!(self.collection, Collection::Set(_));
@@ -105,7 +106,7 @@ impl Course {
         }
     }
 
-    /// Notes the evicted pair, and returns whether it was present.
+    /// Records the evicted pair, and returns whether it was present.
     fn goes(&mut self, gone: Option<(u64, u64)>) -> bool {
         let Some((key, value)) = gone else {
             return true;
@@ -117,7 +118,7 @@ impl Course {
         was_there
     }
 
-    /// Upserts a pair of a map; inserts a pair of another collection.
+    /// Upserts a pair in a map; inserts a pair into another collection.
     fn upsert(&mut self, number: u64, value: u64) -> bool {
         let key = key_of(number);
         let wanted = self.beside.value(number);
@@ -140,7 +141,7 @@ impl Course {
         }
     }
 
-    /// Notes a pair that was inserted.
+    /// Records an inserted pair.
     fn puts(&mut self, number: u64, value: u64) {
         self.beside.set(number, Some(value));
         self.put = self.put.saturating_add(1);
@@ -187,12 +188,12 @@ impl Course {
         }
     }
 
-    /// Whether the collection has the pairs that it must have, and no more.
+    /// Returns whether the collection has exactly the expected pairs.
     fn is_same(&self) -> bool {
         self.agrees_with(&self.collection)
     }
 
-    /// Whether a collection has the pairs that this one must have, and no more.
+    /// Returns whether a collection has exactly the pairs that this one is expected to have.
     fn agrees_with(&self, collection: &Collection) -> bool {
         for number in 0..KEYS {
             if collection.value(key_of(number)) != self.beside.value(number) {
@@ -203,7 +204,7 @@ impl Course {
     }
 }
 
-/// The key of a number.
+/// Returns the key of a number.
 fn key_of(number: u64) -> u64 {
     number.wrapping_mul(SPREADING)
 }

@@ -1,11 +1,11 @@
-//! Random calls on collections of numbers, compared with an array of what each must have, for runs
-//! in which random allocations fail.
+//! Random calls on collections of numbers, compared with an array of the expected contents, for
+//! runs in which random allocations fail.
 //!
 //! An insertion may return an allocation failure, and so may an upsert of an absent key and a copy
-//! of a map or a set: the collection then has the pairs that it had. No other call may. The program
-//! checks each result itself, each copy too, and writes a line for each collection. Its status is 0
-//! if every result was right and each cache evicted pairs. How many pairs a cache has depends on
-//! its slots, and isn't written.
+//! of a map or a set: the collection then has the pairs that it had. No other call may fail. The
+//! program checks each result itself, each copy too, and writes a line for each collection. Its
+//! status is 0 if every result was right and each cache evicted pairs. The number of pairs in a
+//! cache depends on its slots, and isn't printed.
 #![tactic(auto)]
 
 mod collection;

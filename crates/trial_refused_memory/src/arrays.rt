@@ -14,8 +14,8 @@ const CAPACITIES: [(usize, usize); 3] = [(0, 64), (65, 128), (1000, 1024)];
 // A capacity whose array has 256 buckets, in four parts.
 const IN_PARTS: usize = 8192;
 
-/// Makes an array for each capacity, and drops it; and then one of several parts, and fills a
-/// bucket in each, which takes no more memory.
+/// Makes an array for each capacity, and drops it; and then one with several parts, and fills a
+/// bucket in each, which allocates nothing more.
 pub(crate) fn arrays(alloc: Global) -> Outcome {
     for (capacity, slots) in CAPACITIES {
         let Ok(array) = Array::alloc(alloc, capacity) else {
@@ -36,7 +36,7 @@ pub(crate) fn arrays(alloc: Global) -> Outcome {
     Outcome::Done
 }
 
-/// Fills the own slots of a bucket that is empty.
+/// Fills the own slots of an empty bucket.
 fn fills(array: &mut Array, index: usize) -> bool
     requires { index < length array.old }
 {

@@ -5,10 +5,10 @@ use std::alloc::Global;
 
 type Pairs = Bucket<u64, u64, (), MAP>;
 
-// The own slots of a bucket. So many pairs take no memory.
+// The own slots of a bucket. That many pairs need no allocation.
 const OWN_SLOTS: u64 = 32;
 
-// More slots than the first block of a chain has left.
+// More slots than are left in the first block of a chain.
 const RESERVED: usize = 9;
 
 /// Fills two buckets, and then overflows one, reserves room there, and moves a pair to the other.
@@ -29,7 +29,7 @@ pub(crate) fn two_buckets(alloc: Global) -> Outcome {
     }
 }
 
-/// A bucket of the keys 0 to 31, each its own value, under one hash.
+/// Returns a bucket of the keys 0 to 31, each its own value, with one hash.
 fn filled(alloc: Global) -> Option<Pairs> {
     let mut bucket = Pairs::new(alloc);
     for key in 0..OWN_SLOTS {
@@ -51,7 +51,7 @@ fn overflow(bucket: &mut Pairs) -> Outcome {
     }
 }
 
-/// Reserves slots beyond those that are free.
+/// Reserves more slots than are free.
 fn reserve(bucket: &mut Pairs) -> Outcome {
     let outcome = match bucket.reserve_slots(RESERVED) {
         Ok(()) => Outcome::Done,
@@ -78,13 +78,13 @@ fn transfer(from: &mut Pairs, to: &mut Pairs) -> Outcome {
     }
 }
 
-/// Whether the pointer is still that of key 32.
+/// Returns whether the pointer is still that of key 32.
 fn points_to(at: &EntryPtr<u64, u64, MAP>, bucket: &Pairs) -> bool {
     let there = bucket.get_entry_ptr(&OWN_SLOTS, 0);
     at.is_valid() && (at.block(), at.pos()) == (there.block(), there.pos())
 }
 
-/// Whether the bucket has the keys below `keys`, each with itself as its value, and no more.
+/// Returns whether the bucket has exactly the keys below `keys`, each with itself as its value.
 fn holds(bucket: &Pairs, keys: u64) -> bool {
     for key in 0..keys {
         if bucket.search_entry(&key, 0) != Some((&key, &key)) {
@@ -94,7 +94,7 @@ fn holds(bucket: &Pairs, keys: u64) -> bool {
     bucket.len() == keys as usize
 }
 
-/// The outcome, if it is right.
+/// Returns the outcome, if it is right.
 fn judged(right: bool, outcome: Outcome) -> Outcome {
     if right { outcome } else { Outcome::Wrong }
 }

@@ -20,17 +20,17 @@ type Pairs = Bucket<u64, u64, (), MAP>;
 pub(crate) enum Answer {
     /// The expected result.
     Right,
-    /// What is seen if a resize was left out.
+    /// The expected observation if a resize was skipped.
     Unresized,
-    /// What is seen if a unit wasn't finished, or an old bucket stayed.
+    /// The expected observation if a unit wasn't finished, or an old bucket stayed.
     Unmoved,
-    /// Allocation failure, and what must be seen of it in the call's own result.
+    /// Allocation failure, and the expected observation in the call's own result.
     Refused,
     /// Anything else.
     Wrong,
 }
 
-/// Right if the condition holds.
+/// Returns `Right` if the condition holds.
 pub(crate) fn right_if(holds: bool) -> Answer {
     if holds { Answer::Right } else { Answer::Wrong }
 }
@@ -62,8 +62,8 @@ pub(crate) fn put(table: &mut Map, beside: &mut FewKeys, key: u64) -> Answer {
     }
 }
 
-/// Runs a script, which inserts a new key, reads it and removes it. If allocation fails, it has
-/// done nothing.
+/// Runs a script, which inserts a new key, reads it and removes it. If allocation fails, nothing
+/// was done.
 pub(crate) fn run_calls(alloc: Global, table: &mut Map, key: u64) -> Answer {
     let mut calls = Vec::new(alloc);
     for call in [Call::Put(key, key), Call::Read(key), Call::Remove(key)] {
@@ -115,7 +115,7 @@ pub(crate) fn lock(table: &mut Map, hash: u64, index: usize) -> Answer {
     }
 }
 
-/// The same by the other name of the call.
+/// The same under the other name of the call.
 pub(crate) fn reserve(table: &mut Map, hash: u64, index: usize) -> Answer {
     match table.try_reserve_bucket(hash) {
         Ok(locked) => right_if(locked.bucket_index() == index),
@@ -123,7 +123,7 @@ pub(crate) fn reserve(table: &mut Map, hash: u64, index: usize) -> Answer {
     }
 }
 
-/// Asks for a resize.
+/// Requests a resize.
 pub(crate) fn resize(table: &mut Map, comes: bool) -> Answer {
     match table.try_resize() {
         Ok(done) => right_if(done == comes),
@@ -145,7 +145,7 @@ pub(crate) fn read(table: &mut Map, key: u64) -> Answer {
     right_if(found == Some((key, key)))
 }
 
-/// Writes another value over a key's, which never fails.
+/// Replaces the value of a key, which never fails.
 pub(crate) fn write(table: &mut Map, beside: &mut FewKeys, key: u64) -> Answer {
     let Some(earlier) = beside.value(key) else {
         return Answer::Wrong;
@@ -155,7 +155,7 @@ pub(crate) fn write(table: &mut Map, beside: &mut FewKeys, key: u64) -> Answer {
     right_if(table.upsert(key, value, &(), ResizeRule::Sampled) == Ok(Some(earlier)))
 }
 
-/// Relocates an old bucket, which has so many pairs. If allocation fails, it keeps them all.
+/// Relocates an old bucket with that many pairs. If allocation fails, the bucket keeps them all.
 pub(crate) fn relocate(table: &mut Map, index: usize, pairs: usize) -> Answer {
     if !table.has_old_bucket(index) {
         return Answer::Wrong;
@@ -166,7 +166,7 @@ pub(crate) fn relocate(table: &mut Map, index: usize, pairs: usize) -> Answer {
     }
 }
 
-/// Whether an old bucket is killed, and how many pairs it has.
+/// Returns whether an old bucket is killed, and how many pairs it has.
 pub(crate) fn old_bucket(table: &Map, index: usize) -> Option<(bool, usize)> {
     let array = table.linked_array()?;
     array.room();
@@ -177,8 +177,8 @@ pub(crate) fn old_bucket(table: &Map, index: usize) -> Option<(bool, usize)> {
     Some((bucket.is_killed(), bucket.len()))
 }
 
-/// Whether a key stands in an own slot of a bucket: of the old array, if there is one, else of the
-/// current one.
+/// Returns whether a key is in an own slot of a bucket: of the old array, if there is one, else of
+/// the current one.
 pub(crate) fn stands(table: &Map, key: u64, index: usize, slot: usize) -> bool {
     let array = match (table.linked_array(), table.array()) {
         (Some(old), _) => old,
@@ -189,12 +189,12 @@ pub(crate) fn stands(table: &Map, key: u64, index: usize, slot: usize) -> bool {
     if index >= array.len() {
         return false;
     }
-    // The low byte of a hash is that of its key, and a bucket looks at no more.
+    // The low byte of a hash is that of its key, and a bucket compares no more.
     let at = array.bucket(index).get_entry_ptr(&key, key);
     at.is_valid() && (at.block(), at.pos()) == (0, slot)
 }
 
-/// Finishes the rehash, of which so many units are left.
+/// Finishes the rehash, of which that many units are left.
 pub(crate) fn finish(table: &mut Map, units: usize) -> Answer {
     if has_open_ticket(table) {
         return Answer::Wrong;
@@ -205,7 +205,7 @@ pub(crate) fn finish(table: &mut Map, units: usize) -> Answer {
     }
 }
 
-// Whether a ticket is open, as the rehash word tells.
+// Returns whether a ticket is open, according to the rehash word.
 fn has_open_ticket(table: &Map) -> bool
     ensures { result ≡ false → IsUnopened table.now.arrays }
 {
@@ -232,7 +232,7 @@ pub(crate) fn walk(table: &mut Map, whole: Lent, refused: Lent) -> Answer {
     }
 }
 
-/// Visits all buckets mutably, and asks for a shorter array.
+/// Visits all buckets mutably, and requests a shorter array.
 pub(crate) fn visit(table: &mut Map, whole: Lent, refused: Lent) -> Answer {
     let mut lent: Lent = (0, 0);
     let mut counts = |bucket: &mut Pairs, flag: &mut bool| -> bool {
@@ -246,7 +246,7 @@ pub(crate) fn visit(table: &mut Map, whole: Lent, refused: Lent) -> Answer {
     }
 }
 
-/// A cursor meets one key first, and then another.
+/// Moves a cursor to one key, and then to another.
 pub(crate) fn meet(table: &mut Map, first: u64, second: u64) -> Answer {
     let mut at = EntryPtr::null();
     let locked = match table.first_sync(&mut at) {
@@ -264,8 +264,8 @@ pub(crate) fn meet(table: &mut Map, first: u64, second: u64) -> Answer {
     }
 }
 
-// Whether a pointer is at the pair of a key. The low byte of a hash is that of its key, unless all
-// hashes are 0, and a bucket looks at no more.
+// Returns whether a pointer is at the pair of a key. The low byte of a hash is that of its key,
+// unless all hashes are 0, and a bucket compares no more.
 fn stands_at(
     locked: &LockedBucket<'_, u64, u64, ScriptHash, (), MAP>,
     at: &EntryPtr<u64, u64, MAP>,
@@ -275,7 +275,7 @@ fn stands_at(
     there.is_valid() && (there.block(), there.pos()) == (at.block(), at.pos())
 }
 
-/// Removes the keys below one. If allocation fails, it has removed only those below another one.
+/// Removes the keys below one. If allocation fails, only those below another one are removed.
 pub(crate) fn sweep(table: &mut Map, beside: &mut FewKeys, below: u64, passed: u64) -> Answer {
     let keep = |key: &u64, _value: &u64| *key >= below;
     match table.sweep(&keep, &()) {

@@ -1,84 +1,83 @@
-//! The cases of calls on tables, each with what an allocation failure does to it.
+//! The cases of calls on tables, each with the effect of an allocation failure.
 use crate::by_call::Lent;
 use crate::outcome::Outcome;
 use bucket_table::script::ScriptHash;
 
-/// What happens on a new map.
+/// What happens to a new map.
 pub(crate) struct Case {
     pub(crate) hasher: ScriptHash,
     /// How the table is made. An allocation failure here ends the case.
     pub(crate) start: &'static [Step],
     /// The calls under test.
     pub(crate) steps: &'static [Step],
-    /// What the failure of any of their allocations does to the case.
+    /// The effect of a failure of any of their allocations on the case.
     pub(crate) refused: Outcome,
 }
 
 /// Slots of the current array, and the rehash word.
 pub(crate) type Seen = (usize, Option<usize>);
 
-/// A call, or what is seen of the table.
+/// A call, or an observation of the table.
 #[derive(Drop)]
 pub(crate) enum Step {
-    /// Keys are put, each as its own value.
+    /// Inserts keys, each as its own value.
     Puts(u64, u64),
-    /// Keys are taken out.
+    /// Removes keys.
     Takes(u64, u64),
-    /// A new key is put.
+    /// Inserts a new key.
     Put(u64),
-    /// A key is taken out.
+    /// Removes a key.
     Take(u64),
-    /// A script is run, which puts a new key, reads it and takes it out.
+    /// Runs a script, which inserts a new key, reads it and removes it.
     Runs(u64),
-    /// The least capacity is raised, which never fails.
+    /// Raises the minimum capacity, which never fails.
     Raises(usize),
-    /// A ticket is handed out, which never fails.
+    /// Issues a ticket, which never fails.
     Opens(usize),
-    /// The present array, or the one that is made, has so many buckets.
+    /// The present array, or the one that is made, has that many buckets.
     Makes(usize),
     /// The writer's bucket of a hash has this index.
     Locks(u64, usize),
-    /// The same by the other name of the call.
+    /// The same under the other name of the call.
     Reserves(u64, usize),
-    /// A resize is asked for, and happens or doesn't.
+    /// Requests a resize, which happens or doesn't.
     Resizes(bool),
-    /// The slots are doubled if the home of a hash is overfull, or aren't.
+    /// Doubles the slots if the home of a hash is overfull, or doesn't.
     Doubles(u64, bool),
-    /// A key is found, which never fails.
+    /// Finds a key, which never fails.
     Reads(u64),
-    /// Another value is written over a key's, which never fails.
+    /// Replaces the value of a key, which never fails.
     Writes(u64),
-    /// An old bucket is relocated, which has so many pairs.
+    /// Relocates an old bucket with that many pairs.
     Relocates(usize, usize),
-    /// So many units are left, and worked.
+    /// That many units are left, and worked.
     Finishes(usize),
-    /// A walk for reading lends so much, and so much before an allocation failure.
+    /// A reading walk lends that much, and that much before an allocation failure.
     Walks(Lent, Lent),
-    /// A walk for writing does.
+    /// The same for a writing walk.
     Visits(Lent, Lent),
-    /// A cursor meets these keys.
+    /// A cursor finds these keys.
     Meets(u64, u64),
-    /// Keys below the first are removed, and before an allocation failure those below the second.
+    /// Removes the keys below the first, and before an allocation failure those below the second.
     Sweeps(u64, u64),
-    /// What is seen.
+    /// The expected observation.
     Sees(Seen),
-    /// What is seen after a resize, and what if one of its allocations failed.
+    /// The expected observation after a resize, and if one of its allocations failed.
     Resized(Seen, Seen),
-    /// What is seen after a unit, and what if its allocation failed.
+    /// The expected observation after a unit, and if its allocation failed.
     Worked(Seen, Seen),
-    /// A key is in an own slot of a bucket, in the array that was the current one when it was
-    /// inserted.
+    /// A key is in an own slot of a bucket, in the array that was current when it was inserted.
     Stands(u64, usize, usize),
     /// An old bucket is killed, if there is still an old array.
     IsKilled(usize),
-    /// An old bucket is killed. If allocating room failed, it has so many pairs.
+    /// An old bucket is killed. If making room failed, it has that many pairs.
     Moved(usize, usize),
 }
 
 use Step::*;
 
-// A bucket of 40 pairs moves from an array of two buckets to one of 128. For that it counts, in a
-// list, the pairs that move to each target.
+// A bucket of 40 pairs moves from an array of two buckets to one of 128. For that the table counts,
+// in a list, the pairs that move to each target.
 const FORTY_IN_ONE: &[Step] = &[
     Raises(1),
     Puts(128, 168),
@@ -86,8 +85,8 @@ const FORTY_IN_ONE: &[Step] = &[
     Resized((4096, Some(0)), (64, None)),
 ];
 
-// An array of 16 buckets has shrunk to four, and its only unit is handed out. Old buckets 8 to 10
-// have keys 128 to 167, which all go to bucket 2: 32 to its own slots, so that bucket 10 needs room
+// An array of 16 buckets has shrunk to four, and its only unit is issued. Old buckets 8 to 10 have
+// keys 128 to 167, which all move to bucket 2: 32 to its own slots, so that bucket 10 needs room
 // first.
 const THREE_TO_ONE: &[Step] = &[
     Raises(1),
@@ -155,7 +154,7 @@ pub(crate) const CASES: [Case; 22] = [
         refused: Outcome::AsBefore,
     },
     // The last put takes the last own slot of the first bucket. All its allocations are those of
-    // the doubling that it starts, which is left out if one fails.
+    // the doubling that it starts, which is skipped if one fails.
     Case {
         hasher: ScriptHash::Spread,
         start: &[Puts(0, 31), Puts(128, 159), Sees((64, None))],
@@ -172,8 +171,8 @@ pub(crate) const CASES: [Case; 22] = [
         steps: &[Resizes(true), Sees((256, Some(0))), Resizes(false)],
         refused: Outcome::AsBefore,
     },
-    // Half of the pairs go to each of two buckets, so that the unit that counts them at last moves
-    // them without memory.
+    // Half of the pairs move to each of two buckets, so that the unit that counts them at last
+    // moves them without allocating.
     Case {
         hasher: ScriptHash::Spread,
         start: &[Puts(40, 88), Sees((64, None))],
@@ -181,7 +180,7 @@ pub(crate) const CASES: [Case; 22] = [
         refused: Outcome::AsBefore,
     },
     // The first read allocates only its unit's list. If that fails, the unit isn't finished, and
-    // then the bucket itself moves.
+    // then the bucket itself is moved.
     Case {
         hasher: ScriptHash::Spread,
         start: FORTY_IN_ONE,
@@ -220,7 +219,7 @@ pub(crate) const CASES: [Case; 22] = [
         ],
         refused: Outcome::Unmoved,
     },
-    // So does a value that is written.
+    // A replaced value behaves in the same way.
     Case {
         hasher: ScriptHash::Spread,
         start: THREE_TO_ONE,

@@ -1,5 +1,5 @@
 //! Calls on tables, each on a table of its own, for runs in which an allocation fails. A call that
-//! failed leaves what it promises, and succeeds when it is repeated.
+//! failed leaves what its contract states, and succeeds when it is repeated.
 use crate::by_call::*;
 use crate::cases::Step::*;
 use crate::cases::{CASES, Case, Seen, Step};
@@ -8,7 +8,7 @@ use bucket_table::hash_table::{HashTable, MAXIMUM_CAPACITY_LIMIT};
 use std::alloc::Global;
 use test_helpers::{FewKeys, KEYS};
 
-/// Plays the cases, each if the one before was done.
+/// Runs the cases, each if the one before was done.
 pub(crate) fn direct_calls(alloc: Global) -> Outcome {
     for case in &CASES {
         match perform(alloc, case) {
@@ -19,7 +19,7 @@ pub(crate) fn direct_calls(alloc: Global) -> Outcome {
     Outcome::Done
 }
 
-/// Plays a case, and judges it by what the case says of an allocation failure in its steps.
+/// Runs a case, and judges it by its expected effect of an allocation failure in its steps.
 fn perform(alloc: Global, case: &Case) -> Outcome {
     let mut table: Map = HashTable::new(alloc, case.hasher, 0, MAXIMUM_CAPACITY_LIMIT);
     let mut beside = FewKeys::new();
@@ -40,7 +40,7 @@ fn perform(alloc: Global, case: &Case) -> Outcome {
     judged(&mut table, &beside, outcome)
 }
 
-/// The outcome, where the table has the map's pairs.
+/// Returns the outcome, if the table has the map's pairs.
 fn judged(table: &mut Map, beside: &FewKeys, outcome: Outcome) -> Outcome {
     if holds(table, beside) && table.num_entries() == beside.len() {
         outcome
@@ -49,7 +49,7 @@ fn judged(table: &mut Map, beside: &FewKeys, outcome: Outcome) -> Outcome {
     }
 }
 
-/// Takes a step, or those of a range of keys.
+/// Takes a step, or the steps for a range of keys.
 fn play(alloc: Global, table: &mut Map, beside: &mut FewKeys, step: &Step) -> Outcome {
     let (from, to, puts) = match step {
         Puts(from, to) => (*from, *to, true),
@@ -69,7 +69,7 @@ fn play(alloc: Global, table: &mut Map, beside: &mut FewKeys, step: &Step) -> Ou
 }
 
 /// Takes a step, and repeats it if an allocation failed and it left the slots, the word and the
-/// pairs.
+/// pairs unchanged.
 fn attempt(alloc: Global, table: &mut Map, beside: &mut FewKeys, step: &Step) -> Outcome {
     let before = seen_of(table);
     match take(alloc, table, beside, step) {
@@ -113,7 +113,7 @@ fn take(alloc: Global, table: &mut Map, beside: &mut FewKeys, step: &Step) -> An
     }
 }
 
-/// Takes a step that only looks.
+/// Takes a step that only observes.
 fn look(table: &Map, step: &Step) -> Answer {
     match step {
         Sees(wanted) => right_if(seen_of(table) == *wanted),
@@ -138,7 +138,7 @@ fn look(table: &Map, step: &Step) -> Answer {
     }
 }
 
-/// Right if no allocation failed, else the outcome given for a failure.
+/// Returns `Right` if no allocation failed, else the answer given for a failure.
 fn right_or(granted: bool, refused: bool, answer: Answer) -> Answer {
     if granted {
         Answer::Right
@@ -149,7 +149,7 @@ fn right_or(granted: bool, refused: bool, answer: Answer) -> Answer {
     }
 }
 
-/// Whether the pairs of an old bucket have moved, or the old array is gone.
+/// Returns whether the pairs of an old bucket have moved, or the old array is dropped.
 fn is_moved(table: &Map, index: usize) -> bool {
     match old_bucket(table, index) {
         Some((killed, pairs)) => killed && pairs == 0,
@@ -161,7 +161,7 @@ fn seen_of(table: &Map) -> Seen {
     (table.num_slots(), table.rehashing_metadata())
 }
 
-/// Whether the table has the map's values.
+/// Returns whether the table has the map's values.
 fn holds(table: &Map, beside: &FewKeys) -> bool {
     for key in 0..KEYS {
         let there = match table.peek_entry(&key) {

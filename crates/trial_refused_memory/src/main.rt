@@ -2,8 +2,8 @@
 //!
 //! The program judges its own outcome, and prints it in one line. A right outcome with an
 //! allocation failure has its own status, so that of two runs with status 0 both printed `done`,
-//! unless one of them was wrong: a trial that lets one allocation after another fail reports such a
-//! run.
+//! unless one of them was wrong: a trial that makes one allocation after another fail reports such
+//! a run.
 #![tactic(auto)]
 
 mod arrays;

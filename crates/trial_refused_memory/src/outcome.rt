@@ -5,9 +5,9 @@
 pub(crate) enum Outcome {
     /// Every reply and every pair is the expected one.
     Done,
-    /// A call failed to allocate, and all pairs are as they were.
+    /// A call failed to allocate, and all pairs are unchanged.
     AsBefore,
-    /// A resize was left out, since one of its allocations failed. All else is as usual.
+    /// A resize was skipped, since one of its allocations failed. Everything else is as usual.
     Unresized,
     /// An allocation of a look-up failed: a unit wasn't finished, or an old bucket stayed, and the
     /// pair was found nevertheless.
@@ -17,7 +17,7 @@ pub(crate) enum Outcome {
 }
 
 impl Outcome {
-    /// A line that says so.
+    /// Returns the line that reports it.
     pub(crate) fn text(&self) -> &'static str {
         match self {
             Outcome::Done => "done",
@@ -28,7 +28,7 @@ impl Outcome {
         }
     }
 
-    /// The exit status: each right outcome has its own, and a wrong one has that of `Done`.
+    /// Returns the exit status: each right outcome has its own, and a wrong one has that of `Done`.
     pub(crate) fn status(&self) -> u8 {
         match self {
             Outcome::Done | Outcome::Wrong => 0,

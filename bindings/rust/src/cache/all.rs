@@ -6,7 +6,8 @@ use crate::{Key, Map, NoMemory};
 use std::fmt;
 
 impl<K, V> Cache<K, V> {
-    /// The pairs, in no promised order; none is touched. O(slots) for all of them, and takes no memory.
+    /// Returns an iterator over the pairs, in no particular order; none is touched. All steps together are O(slots),
+    /// and allocate nothing.
     ///
     /// ```
     /// let mut cache = bucket::Cache::new(64)?;
@@ -18,7 +19,7 @@ impl<K, V> Cache<K, V> {
         Iter::new(&self.table)
     }
 
-    /// The pairs, with values that may be changed, in no promised order; none is touched.
+    /// Returns an iterator over the pairs with mutable values, in no particular order; none is touched.
     ///
     /// ```
     /// let mut cache = bucket::Cache::new(64)?;
@@ -33,8 +34,8 @@ impl<K, V> Cache<K, V> {
         IterMut::new(&mut self.table)
     }
 
-    /// Hands all pairs out. The cache is empty from here on, and has no slots; what isn't taken is dropped with the
-    /// iterator.
+    /// Removes all pairs, and returns an iterator over them. The cache is empty at once, and has no slots; what isn't
+    /// taken is dropped with the iterator.
     ///
     /// ```
     /// let mut cache = bucket::Cache::new(64)?;
@@ -62,9 +63,9 @@ impl<K, V> Cache<K, V> {
 }
 
 impl<K: Key, V> Cache<K, V> {
-    /// Keeps the pairs that `keeps` says yes to, and drops the others, once it has been asked for all pairs. Where it
-    /// panics, those that it said no to are dropped, and the others stay. Touches no pair, and takes no memory.
-    /// O(slots).
+    /// Keeps the pairs for which `keeps` returns `true`, and drops the others, once it has been called for all. If it
+    /// panics, those for which it returned `false` are dropped, and the others stay. Touches no pair, allocating
+    /// nothing. O(slots).
     ///
     /// ```
     /// let mut cache = bucket::Cache::new(64)?;
@@ -81,7 +82,7 @@ impl<K: Key, V> Cache<K, V> {
     ///
     /// # Errors
     ///
-    /// An allocation failed: the pairs before that one were put, it is dropped, and those behind it weren't asked for.
+    /// An allocation failed: the pairs before that one were put, it is dropped, and those after it weren't requested.
     ///
     /// ```
     /// let mut cache = bucket::Cache::new(64)?;
@@ -94,8 +95,8 @@ impl<K: Key, V> Cache<K, V> {
     }
 }
 
-/// Ends in [`handle_alloc_error`](std::alloc::handle_alloc_error) if an allocation fails; [`Cache::try_extend`] answers
-/// that by an error.
+/// Calls [`handle_alloc_error`](std::alloc::handle_alloc_error) if an allocation fails; [`Cache::try_extend`] returns
+/// an error instead.
 impl<K: Key, V> Extend<(K, V)> for Cache<K, V> {
     fn extend<I: IntoIterator<Item = (K, V)>>(&mut self, pairs: I) {
         Map::<K, V>::unfailing(self.try_extend(pairs))

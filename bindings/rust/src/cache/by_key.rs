@@ -6,15 +6,15 @@ use crate::{Key, KeyForm, NoMemory, NotInserted};
 use std::borrow::Borrow;
 
 impl<K: Key, V> Cache<K, V> {
-    /// Puts a value at a key, touches the pair, and returns the pair that left the cache for it, if one did: the
-    /// evicted one, or, where the key was there, the key with its earlier value, as `push` of the crate `lru` does.
-    /// So whatever leaves the cache comes out, and a key that equals the one that was put says which of both it was.
-    /// O(1).
+    /// Inserts a pair, or replaces the value of a key that is present, and touches the pair. Returns the pair that
+    /// left the cache for it, if any: the evicted one, or, if the key was present, the key with its earlier value,
+    /// like `push` of the crate `lru`. So whatever leaves the cache is returned; if its key equals the one that was
+    /// put, it is the earlier value. O(1).
     ///
     /// # Errors
     ///
-    /// An allocation failed: the cache is as it was, and the pair is dropped. It can't fail if the key is there.
-    /// [`try_put`](Cache::try_put) hands the pair back.
+    /// An allocation failed: the cache is as it was, and the pair is dropped. It can't fail if the key is present.
+    /// [`try_put`](Cache::try_put) returns the pair.
     ///
     /// ```
     /// let mut cache = bucket::Cache::new(64)?;
@@ -31,7 +31,7 @@ impl<K: Key, V> Cache<K, V> {
         self.table.put(key, value).map_err(|_| NoMemory)
     }
 
-    /// The same as [`put`](Cache::put), but the pair isn't lost where an allocation fails. O(1).
+    /// The same as [`put`](Cache::put), but the pair isn't lost if an allocation fails. O(1).
     ///
     /// # Errors
     ///
@@ -50,11 +50,11 @@ impl<K: Key, V> Cache<K, V> {
         self.table.put(key, value).map_err(NotInserted::for_memory)
     }
 
-    /// Puts a pair whose key is absent, and returns the one that was evicted for it. O(1).
+    /// Inserts a pair whose key is absent, and returns the one that was evicted for it. O(1).
     ///
     /// # Errors
     ///
-    /// The key is there, and isn't touched, or an allocation failed. The cache is as it was, and the error has the
+    /// The key is present, and isn't touched, or an allocation failed. The cache is as it was, and the error has the
     /// pair.
     ///
     /// ```
@@ -70,8 +70,8 @@ impl<K: Key, V> Cache<K, V> {
         self.table.insert(key, value).map(|(_, evicted)| evicted)
     }
 
-    /// The value at a key, whose pair is touched; where it is absent, the one that `make` makes, which is put. A pair
-    /// that is evicted for it is dropped. O(1).
+    /// Returns the value of a key, and touches the pair; if the key is absent, inserts the value that `make` returns.
+    /// A pair that is evicted for it is dropped. O(1).
     ///
     /// # Errors
     ///
@@ -94,11 +94,11 @@ impl<K: Key, V> Cache<K, V> {
                 self.table.insert(key, value).map_err(|_| NoMemory)?.0
             }
         };
-        // SAFETY: the node stands in the table, which is lent for as long.
+        // SAFETY: the node is in the table, which is borrowed for as long.
         Ok(unsafe { &mut (*at::<K, V>(address)).value })
     }
 
-    /// The value at a key, whose pair is touched. O(1).
+    /// Returns the value of a key, and touches the pair. O(1).
     ///
     /// ```
     /// let mut cache = bucket::Cache::new(64)?;
@@ -116,7 +116,7 @@ impl<K: Key, V> Cache<K, V> {
         self.get_mut(key).map(|value| &*value)
     }
 
-    /// The value at a key, to be changed; the pair is touched. O(1).
+    /// Returns a mutable reference to the value of a key, and touches the pair. O(1).
     ///
     /// ```
     /// let mut cache = bucket::Cache::new(64)?;
@@ -131,11 +131,11 @@ impl<K: Key, V> Cache<K, V> {
         K: Borrow<Q>,
         Q: ?Sized + KeyForm,
     {
-        // SAFETY: the node stands in the table, which is lent for as long.
+        // SAFETY: the node is in the table, which is borrowed for as long.
         self.table.touch(key).map(|address| unsafe { &mut (*at::<K, V>(address)).value })
     }
 
-    /// The value at a key; no pair is touched. O(1).
+    /// Returns the value of a key, without touching the pair. O(1).
     ///
     /// ```
     /// let mut cache = bucket::Cache::new(64)?;
@@ -152,7 +152,7 @@ impl<K: Key, V> Cache<K, V> {
         self.table.get(key).map(|node| &node.value)
     }
 
-    /// The value at a key, to be changed; no pair is touched. O(1).
+    /// Returns a mutable reference to the value of a key, without touching the pair. O(1).
     ///
     /// ```
     /// let mut cache = bucket::Cache::new(64)?;
@@ -170,7 +170,7 @@ impl<K: Key, V> Cache<K, V> {
         self.table.get_mut(key).map(|node| &mut node.value)
     }
 
-    /// The pair of a key, which is touched: the key as it was put, and its value. O(1).
+    /// Returns the pair of a key, and touches it: the key as it was put, and its value. O(1).
     ///
     /// ```
     /// let mut cache = bucket::Cache::new(64)?;
@@ -183,12 +183,12 @@ impl<K: Key, V> Cache<K, V> {
         K: Borrow<Q>,
         Q: ?Sized + KeyForm,
     {
-        // SAFETY: the node stands in the table, which is lent for as long.
+        // SAFETY: the node is in the table, which is borrowed for as long.
         let node = self.table.touch(key).map(|address| unsafe { &*at::<K, V>(address) })?;
         Some((&node.key, &node.value))
     }
 
-    /// Whether a key is there; no pair is touched. O(1).
+    /// Returns `true` if a key is present; no pair is touched. O(1).
     ///
     /// ```
     /// let mut cache = bucket::Cache::new(64)?;
@@ -205,7 +205,7 @@ impl<K: Key, V> Cache<K, V> {
         self.table.contains(key)
     }
 
-    /// The same as [`contains`](Cache::contains), by the name that a map has.
+    /// The same as [`contains`](Cache::contains), under the name that a map uses.
     ///
     /// ```
     /// assert!(!bucket::Cache::<u64, u64>::new(64)?.contains_key(&1));
@@ -220,7 +220,7 @@ impl<K: Key, V> Cache<K, V> {
         self.contains(key)
     }
 
-    /// Removes a key, and returns its value. Takes no memory. O(1).
+    /// Removes a key, and returns its value. Allocates nothing. O(1).
     ///
     /// ```
     /// let mut cache = bucket::Cache::new(64)?;
@@ -237,7 +237,7 @@ impl<K: Key, V> Cache<K, V> {
         self.remove_entry(key).map(|(_, value)| value)
     }
 
-    /// The same as [`remove`](Cache::remove), by the name that the crate `lru` has for it.
+    /// The same as [`remove`](Cache::remove), under the name that the crate `lru` uses.
     ///
     /// ```
     /// let mut cache = bucket::Cache::new(64)?;
@@ -254,7 +254,7 @@ impl<K: Key, V> Cache<K, V> {
         self.remove(key)
     }
 
-    /// Removes a key, and returns it with its value. Takes no memory. O(1).
+    /// Removes a key, and returns it with its value. Allocates nothing. O(1).
     ///
     /// ```
     /// let mut cache = bucket::Cache::new(64)?;

@@ -8,7 +8,8 @@ use std::fmt;
 use std::iter::FusedIterator;
 
 impl<K, V> Map<K, V> {
-    /// The pairs, in no promised order. O(slots) for all of them, and takes no memory.
+    /// Returns an iterator over the pairs, in no particular order. All steps together are O(slots), and allocate
+    /// nothing.
     ///
     /// ```
     /// use bucket::Map;
@@ -20,7 +21,7 @@ impl<K, V> Map<K, V> {
         Iter::new(&self.table)
     }
 
-    /// The pairs, with values that may be changed, in no promised order.
+    /// Returns an iterator over the pairs with mutable values, in no particular order.
     ///
     /// ```
     /// use bucket::Map;
@@ -35,7 +36,7 @@ impl<K, V> Map<K, V> {
         IterMut::new(&mut self.table)
     }
 
-    /// The keys, in no promised order.
+    /// Returns an iterator over the keys, in no particular order.
     ///
     /// ```
     /// assert_eq!(bucket::Map::from([(1, 'a'), (2, 'b')]).keys().max(), Some(&2));
@@ -44,7 +45,7 @@ impl<K, V> Map<K, V> {
         Keys(self.iter())
     }
 
-    /// The values, in no promised order.
+    /// Returns an iterator over the values, in no particular order.
     ///
     /// ```
     /// assert_eq!(bucket::Map::from([(1, 'a'), (2, 'b')]).values().max(), Some(&'b'));
@@ -53,7 +54,7 @@ impl<K, V> Map<K, V> {
         Values(self.iter())
     }
 
-    /// The values, to be changed, in no promised order.
+    /// Returns an iterator over the values, mutably, in no particular order.
     ///
     /// ```
     /// use bucket::Map;
@@ -66,7 +67,7 @@ impl<K, V> Map<K, V> {
         ValuesMut(self.iter_mut())
     }
 
-    /// The keys, handed out; the values are dropped.
+    /// Returns an iterator over the keys by value; the values are dropped.
     ///
     /// ```
     /// use bucket::Map;
@@ -79,7 +80,7 @@ impl<K, V> Map<K, V> {
         IntoKeys(self.into_iter())
     }
 
-    /// The values, handed out; the keys are dropped.
+    /// Returns an iterator over the values by value; the keys are dropped.
     ///
     /// ```
     /// use bucket::Map;
@@ -90,8 +91,8 @@ impl<K, V> Map<K, V> {
         IntoValues(self.into_iter())
     }
 
-    /// Hands all pairs out. The map is empty from here on, and has no slots; what isn't taken is dropped with the
-    /// iterator. If that is leaked, so are the pairs that are left.
+    /// Removes all pairs, and returns an iterator over them. The map is empty at once, and has no slots; what isn't
+    /// taken is dropped with the iterator. If that is leaked, so are the pairs that are left.
     ///
     /// ```
     /// use bucket::Map;
@@ -117,8 +118,8 @@ impl<K, V> Map<K, V> {
 }
 
 impl<K: Key, V> Map<K, V> {
-    /// Keeps the pairs that `keeps` says yes to, and drops the others, once it has been asked for all pairs. Where it
-    /// panics, those that it said no to are dropped, and the others stay. Takes no memory. O(slots).
+    /// Keeps the pairs for which `keeps` returns `true`, and drops the others, once it has been called for all. If it
+    /// panics, those for which it returned `false` are dropped, and the others stay. Allocates nothing. O(slots).
     ///
     /// ```
     /// use bucket::Map;
@@ -134,8 +135,8 @@ impl<K: Key, V> Map<K, V> {
         self.table.retain(keeps)
     }
 
-    /// Removes and hands out the pairs that `takes` says yes to, one a step. A pair that it wasn't asked for stays,
-    /// as where the iterator is dropped or leaked before its end. Takes no memory. O(slots).
+    /// Removes and returns the pairs for which `takes` returns `true`, one per step. A pair for which it wasn't
+    /// called stays, also if the iterator is dropped or leaked before its end. Allocates nothing. O(slots).
     ///
     /// ```
     /// use bucket::Map;
@@ -158,7 +159,7 @@ impl<K: Key, V> Map<K, V> {
     }
 }
 
-/// The pairs that a closure takes out of a map. [`Map::extract_if`] makes it.
+/// An iterator over the pairs that a closure removes from a map. Created by [`Map::extract_if`].
 #[must_use = "iterators are lazy: `retain` removes pairs that nobody wants"]
 pub struct ExtractIf<'a, K, V, F> {
     sieve: Sieve<'a, K, V>,

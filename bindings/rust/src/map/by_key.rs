@@ -6,7 +6,7 @@ use crate::{Key, KeyForm, NoMemory, NotInserted};
 use std::borrow::Borrow;
 
 impl<K: Key, V> Map<K, V> {
-    /// The value at a key. O(1).
+    /// Returns the value of a key. O(1).
     ///
     /// ```
     /// use bucket::Map;
@@ -24,7 +24,7 @@ impl<K: Key, V> Map<K, V> {
         self.table.get(key).map(|node| &node.value)
     }
 
-    /// The value at a key, to be changed. O(1).
+    /// Returns a mutable reference to the value of a key. O(1).
     ///
     /// ```
     /// use bucket::Map;
@@ -44,7 +44,7 @@ impl<K: Key, V> Map<K, V> {
         self.table.get_mut(key).map(|node| &mut node.value)
     }
 
-    /// The pair of a key: the key as it was inserted, and its value. O(1).
+    /// Returns the pair of a key: the key as it was inserted, and its value. O(1).
     ///
     /// ```
     /// use bucket::Map;
@@ -61,11 +61,11 @@ impl<K: Key, V> Map<K, V> {
         self.table.get(key).map(|node| (&node.key, &node.value))
     }
 
-    /// The values at several keys, to be changed. O(N²).
+    /// Returns mutable references to the values of several keys. O(N²).
     ///
     /// # Panics
     ///
-    /// If a key that is there comes twice.
+    /// If a key that is present comes twice.
     ///
     /// ```
     /// use bucket::Map;
@@ -86,11 +86,11 @@ impl<K: Key, V> Map<K, V> {
         for (place, address) in found.iter().enumerate() {
             assert!(address.is_none() || !found[..place].contains(address), "duplicate keys found");
         }
-        // SAFETY: the nodes stand in the table, which is lent for as long, and no two are one.
+        // SAFETY: the nodes is in the table, which is borrowed for as long, and no two are one.
         found.map(|address| address.map(|address| unsafe { &mut (*at::<K, V>(address)).value }))
     }
 
-    /// Whether a key is there. O(1).
+    /// Returns `true` if a key is present. O(1).
     ///
     /// ```
     /// assert!(bucket::Map::from([(b"ab".to_vec(), 1)]).contains_key(&b"ab"[..]));
@@ -104,13 +104,13 @@ impl<K: Key, V> Map<K, V> {
         self.table.contains(key)
     }
 
-    /// Puts a value at a key, and returns the earlier one. A key that is there stays as it is, and needs no
-    /// memory. O(1).
+    /// Inserts a pair, or replaces the value of a key that is present, and returns the earlier value. A key that is
+    /// present stays, and the call then allocates nothing. O(1).
     ///
     /// # Errors
     ///
-    /// An allocation failed: the map is as it was, and the pair is dropped. [`try_insert`](Map::try_insert) hands
-    /// it back.
+    /// An allocation failed: the map is as it was, and the pair is dropped. [`try_insert`](Map::try_insert) returns
+    /// it.
     ///
     /// ```
     /// use bucket::Map;
@@ -125,11 +125,11 @@ impl<K: Key, V> Map<K, V> {
         self.table.upsert(key, value)
     }
 
-    /// Inserts a pair whose key is absent, and lends its value. O(1).
+    /// Inserts a pair whose key is absent, and returns a mutable reference to its value. O(1).
     ///
     /// # Errors
     ///
-    /// The key is there, or an allocation failed. The map is as it was, and the error has the pair.
+    /// The key is present, or an allocation failed. The map is as it was, and the error has the pair.
     ///
     /// ```
     /// use bucket::{Map, Reason};
@@ -144,11 +144,11 @@ impl<K: Key, V> Map<K, V> {
     #[inline]
     pub fn try_insert(&mut self, key: K, value: V) -> Result<&mut V, NotInserted<K, V>> {
         let address = self.table.insert(key, value)?;
-        // SAFETY: the node stands in the table, which is lent for as long.
+        // SAFETY: the node is in the table, which is borrowed for as long.
         Ok(unsafe { &mut (*at::<K, V>(address)).value })
     }
 
-    /// Removes a key, and returns its value. Takes no memory. O(1).
+    /// Removes a key, and returns its value. Allocates nothing. O(1).
     ///
     /// ```
     /// use bucket::Map;
@@ -166,7 +166,7 @@ impl<K: Key, V> Map<K, V> {
         self.remove_entry(key).map(|(_, value)| value)
     }
 
-    /// Removes a key, and returns it with its value. Takes no memory. O(1).
+    /// Removes a key, and returns it with its value. Allocates nothing. O(1).
     ///
     /// ```
     /// use bucket::Map;
@@ -183,7 +183,7 @@ impl<K: Key, V> Map<K, V> {
         self.table.remove(key).map(|node| node.into_pair())
     }
 
-    /// The place of a key, to be looked at, filled or emptied. Takes no memory. O(1).
+    /// Returns the entry of a key, to read, fill or remove it. Allocates nothing. O(1).
     ///
     /// ```
     /// use bucket::Map;
@@ -200,7 +200,7 @@ impl<K: Key, V> Map<K, V> {
         Entry::new(&mut self.table, key)
     }
 
-    /// The key that is there, for an equal one to be put in its place.
+    /// Returns the present key's place, to put an equal key there.
     pub(crate) fn key_mut(&mut self, key: &K) -> Option<&mut K> {
         self.table.get_mut(key).map(|node| &mut node.key)
     }

@@ -6,9 +6,9 @@ use crate::table::Table;
 use crate::{Key, NoMemory};
 use std::fmt;
 
-/// The place of a key in a map, which [`Map::entry`](crate::Map::entry) gives.
+/// The place of a key in a map, which [`Map::entry`](crate::Map::entry) returns.
 pub enum Entry<'a, K, V> {
-    /// The key is there.
+    /// The key is present.
     Occupied(OccupiedEntry<'a, K, V>),
     /// The key is absent.
     Vacant(VacantEntry<'a, K, V>),
@@ -23,7 +23,7 @@ impl<'a, K: Key, V> Entry<'a, K, V> {
         }
     }
 
-    /// The value, which is this one where the key was absent.
+    /// Returns the value, after inserting this one if the key was absent.
     ///
     /// # Errors
     ///
@@ -42,7 +42,7 @@ impl<'a, K: Key, V> Entry<'a, K, V> {
         self.or_insert_with(|| value)
     }
 
-    /// The value, which `make` makes where the key was absent.
+    /// Returns the value, after inserting one that `make` returns if the key was absent.
     ///
     /// # Errors
     ///
@@ -61,7 +61,7 @@ impl<'a, K: Key, V> Entry<'a, K, V> {
         self.or_insert_with_key(|_| make())
     }
 
-    /// The value, which `make` makes of the key where that was absent.
+    /// Returns the value, after inserting one that `make` makes from the key if the key was absent.
     ///
     /// # Errors
     ///
@@ -85,7 +85,7 @@ impl<'a, K: Key, V> Entry<'a, K, V> {
         }
     }
 
-    /// The value, which is the default one where the key was absent.
+    /// Returns the value, after inserting the default if the key was absent.
     ///
     /// # Errors
     ///
@@ -109,7 +109,7 @@ impl<'a, K: Key, V> Entry<'a, K, V> {
         self.or_insert_with(V::default)
     }
 
-    /// Changes the value where the key is there.
+    /// Changes the value if the key is present.
     ///
     /// ```
     /// use bucket::Map;
@@ -129,7 +129,7 @@ impl<'a, K: Key, V> Entry<'a, K, V> {
         self
     }
 
-    /// Puts this value at the key, whether it was there or not.
+    /// Puts this value under the key, whether the key was present or not.
     ///
     /// # Errors
     ///
@@ -152,7 +152,7 @@ impl<'a, K: Key, V> Entry<'a, K, V> {
         }
     }
 
-    /// The key: the one that is there, or the one that the entry was asked for.
+    /// Returns the key: the one that is present, or the one that the entry was requested for.
     ///
     /// ```
     /// let mut map = bucket::Map::<u64, u64>::new();

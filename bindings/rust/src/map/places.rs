@@ -1,4 +1,4 @@
-//! The places of keys that are there, and of those that are absent.
+//! The places of keys that are present, and of those that are absent.
 
 use crate::kind::Maps;
 use crate::node::{at, Node};
@@ -7,10 +7,10 @@ use crate::{Key, NoMemory, NotInserted};
 use std::fmt;
 use std::mem::replace;
 
-/// The place of a key that is there.
+/// The place of a key that is present.
 pub struct OccupiedEntry<'a, K, V> {
     pub(super) table: &'a mut Table<Maps, K, V>,
-    /// Of its node, which stands in the table.
+    /// The address of its node, which is in the table.
     pub(super) address: u64,
 }
 
@@ -22,7 +22,7 @@ pub struct VacantEntry<'a, K, V> {
 
 impl<'a, K, V> OccupiedEntry<'a, K, V> {
     fn node(&self) -> &Node<K, V> {
-        // SAFETY: the node stands in the table, which is lent to this entry alone. So below.
+        // SAFETY: the node is in the table, which is borrowed by this entry only. The same holds below.
         unsafe { &*at(self.address) }
     }
 
@@ -30,7 +30,7 @@ impl<'a, K, V> OccupiedEntry<'a, K, V> {
         unsafe { &mut *at(self.address) }
     }
 
-    /// The key that is there.
+    /// Returns the key that is present.
     ///
     /// ```
     /// use bucket::map::Entry;
@@ -44,7 +44,7 @@ impl<'a, K, V> OccupiedEntry<'a, K, V> {
         &self.node().key
     }
 
-    /// The value.
+    /// Returns the value.
     ///
     /// ```
     /// use bucket::map::Entry;
@@ -58,7 +58,7 @@ impl<'a, K, V> OccupiedEntry<'a, K, V> {
         &self.node().value
     }
 
-    /// The value, to be changed.
+    /// Returns the value, mutably.
     ///
     /// ```
     /// use bucket::map::Entry;
@@ -73,7 +73,7 @@ impl<'a, K, V> OccupiedEntry<'a, K, V> {
         &mut self.node_mut().value
     }
 
-    /// The value, to be changed for as long as the map is lent.
+    /// Returns the value, mutably, for as long as the map is borrowed.
     ///
     /// ```
     /// use bucket::map::Entry;
@@ -95,7 +95,7 @@ impl<'a, K, V> OccupiedEntry<'a, K, V> {
         unsafe { &(*at::<K, V>(self.address)).key }
     }
 
-    /// Puts another value there, and returns the earlier one.
+    /// Replaces the value, and returns the earlier one.
     ///
     /// ```
     /// use bucket::map::Entry;
@@ -142,7 +142,7 @@ impl<K: Key, V> OccupiedEntry<'_, K, V> {
 }
 
 impl<'a, K, V> VacantEntry<'a, K, V> {
-    /// The key that the entry was asked for.
+    /// Returns the key that the entry was requested for.
     ///
     /// ```
     /// use bucket::map::Entry;
@@ -156,7 +156,7 @@ impl<'a, K, V> VacantEntry<'a, K, V> {
         &self.key
     }
 
-    /// The key that the entry was asked for, which is the caller's again.
+    /// Returns the key that the entry was requested for, by value.
     ///
     /// ```
     /// use bucket::map::Entry;
@@ -212,7 +212,7 @@ impl<'a, K: Key, V> VacantEntry<'a, K, V> {
     #[inline]
     pub fn try_insert(self, value: V) -> Result<&'a mut V, NotInserted<K, V>> {
         let address = self.table.insert(self.key, value)?;
-        // SAFETY: the node stands in the table, which is lent for as long.
+        // SAFETY: the node is in the table, which is borrowed for as long.
         Ok(unsafe { &mut (*at::<K, V>(address)).value })
     }
 

@@ -1,4 +1,4 @@
-//! std's traits. Where one makes pairs, an allocation that fails ends as std's own do.
+//! std's traits. Where one makes pairs, a failed allocation ends as in std's collections.
 
 use super::Map;
 use crate::node::Node;
@@ -9,7 +9,7 @@ use std::fmt;
 use std::ops::Index;
 
 impl<K, V> Map<K, V> {
-    /// What a call answered that a trait doesn't let fail.
+    /// Unwraps the result of a call that a trait doesn't allow to fail.
     pub(crate) fn unfailing<T>(answer: Result<T, NoMemory>) -> T {
         answer.unwrap_or_else(|NoMemory| handle_alloc_error(Layout::new::<Node<K, V>>()))
     }
@@ -27,7 +27,7 @@ impl<K: fmt::Debug, V: fmt::Debug> fmt::Debug for Map<K, V> {
     }
 }
 
-/// Whether both have the same pairs, however they are hashed.
+/// Two maps are equal if they have the same pairs, with any seeds.
 impl<K: Key, V: PartialEq> PartialEq for Map<K, V> {
     fn eq(&self, other: &Map<K, V>) -> bool {
         self.len() == other.len() && self.iter().all(|(key, value)| other.get(key) == Some(value))
@@ -36,7 +36,7 @@ impl<K: Key, V: PartialEq> PartialEq for Map<K, V> {
 
 impl<K: Key, V: Eq> Eq for Map<K, V> {}
 
-/// The value at a key that is there.
+/// Returns the value of a key that is present.
 ///
 /// # Panics
 ///
@@ -58,35 +58,35 @@ where
     }
 }
 
-/// Ends in [`handle_alloc_error`] if an allocation fails; [`Map::try_clone`] answers that by an error.
+/// Calls [`handle_alloc_error`] if an allocation fails; [`Map::try_clone`] returns an error instead.
 impl<K: Key, V: Clone> Clone for Map<K, V> {
     fn clone(&self) -> Map<K, V> {
         Self::unfailing(self.try_clone())
     }
 }
 
-/// Ends in [`handle_alloc_error`] if an allocation fails; [`Map::try_from_iter`] answers that by an error.
+/// Calls [`handle_alloc_error`] if an allocation fails; [`Map::try_from_iter`] returns an error instead.
 impl<K: Key, V> FromIterator<(K, V)> for Map<K, V> {
     fn from_iter<I: IntoIterator<Item = (K, V)>>(pairs: I) -> Map<K, V> {
         Self::unfailing(Map::try_from_iter(pairs))
     }
 }
 
-/// Ends in [`handle_alloc_error`] if an allocation fails; [`Map::try_from_iter`] answers that by an error.
+/// Calls [`handle_alloc_error`] if an allocation fails; [`Map::try_from_iter`] returns an error instead.
 impl<K: Key, V, const N: usize> From<[(K, V); N]> for Map<K, V> {
     fn from(pairs: [(K, V); N]) -> Map<K, V> {
         Map::from_iter(pairs)
     }
 }
 
-/// Ends in [`handle_alloc_error`] if an allocation fails; [`Map::try_extend`] answers that by an error.
+/// Calls [`handle_alloc_error`] if an allocation fails; [`Map::try_extend`] returns an error instead.
 impl<K: Key, V> Extend<(K, V)> for Map<K, V> {
     fn extend<I: IntoIterator<Item = (K, V)>>(&mut self, pairs: I) {
         Self::unfailing(self.try_extend(pairs))
     }
 }
 
-/// Ends in [`handle_alloc_error`] if an allocation fails; [`Map::try_extend`] answers that by an error.
+/// Calls [`handle_alloc_error`] if an allocation fails; [`Map::try_extend`] returns an error instead.
 impl<'a, K: Key + Copy, V: Copy> Extend<(&'a K, &'a V)> for Map<K, V> {
     fn extend<I: IntoIterator<Item = (&'a K, &'a V)>>(&mut self, pairs: I) {
         self.extend(pairs.into_iter().map(|(key, value)| (*key, *value)))

@@ -1,4 +1,4 @@
-//! Two sets beside each other.
+//! Calls on two sets.
 
 use super::{Iter, Set};
 use crate::Key;
@@ -6,26 +6,26 @@ use std::fmt;
 use std::iter::{Chain, FusedIterator};
 use std::ops::{BitAnd, BitOr, BitXor, Sub};
 
-/// The keys that are in both sets. [`Set::intersection`] makes it.
+/// An iterator over the keys that are in both sets. Created by [`Set::intersection`].
 pub struct Intersection<'a, K> {
     keys: Iter<'a, K>,
     other: &'a Set<K>,
 }
 
-/// The keys that are in the first set alone. [`Set::difference`] makes it.
+/// An iterator over the keys that are in the first set only. Created by [`Set::difference`].
 pub struct Difference<'a, K> {
     keys: Iter<'a, K>,
     other: &'a Set<K>,
 }
 
-/// The keys that are in either set. [`Set::union`] makes it.
+/// An iterator over the keys that are in either set. Created by [`Set::union`].
 pub struct Union<'a, K>(Chain<Iter<'a, K>, Difference<'a, K>>);
 
-/// The keys that are in one set alone. [`Set::symmetric_difference`] makes it.
+/// An iterator over the keys that are in exactly one set. Created by [`Set::symmetric_difference`].
 pub struct SymmetricDifference<'a, K>(Chain<Difference<'a, K>, Difference<'a, K>>);
 
 impl<K: Key> Set<K> {
-    /// The keys that are in both, as this set or `other` has them. O(slots of the smaller set).
+    /// Returns an iterator over the keys in both, as this set or `other` stores them. O(slots of the smaller set).
     ///
     /// ```
     /// use bucket::Set;
@@ -38,7 +38,7 @@ impl<K: Key> Set<K> {
         Intersection { keys: fewer.iter(), other: more }
     }
 
-    /// The keys of this set that aren't in `other`.
+    /// Returns an iterator over the keys of this set that aren't in `other`.
     ///
     /// ```
     /// use bucket::Set;
@@ -50,7 +50,7 @@ impl<K: Key> Set<K> {
         Difference { keys: self.iter(), other }
     }
 
-    /// The keys that are in either, each once.
+    /// Returns an iterator over the keys in either set, each once.
     ///
     /// ```
     /// use bucket::Set;
@@ -64,7 +64,7 @@ impl<K: Key> Set<K> {
         Union(more.iter().chain(fewer.difference(more)))
     }
 
-    /// The keys that are in one of both alone.
+    /// Returns an iterator over the keys in exactly one of the two sets.
     ///
     /// ```
     /// use bucket::Set;
@@ -76,7 +76,7 @@ impl<K: Key> Set<K> {
         SymmetricDifference(self.difference(other).chain(other.difference(self)))
     }
 
-    /// Whether no key is in both.
+    /// Returns `true` if no key is in both sets.
     ///
     /// ```
     /// assert!(bucket::Set::from([1]).is_disjoint(&bucket::Set::from([2])));
@@ -85,7 +85,7 @@ impl<K: Key> Set<K> {
         self.intersection(other).next().is_none()
     }
 
-    /// Whether each key of this set is in `other`.
+    /// Returns `true` if each key of this set is in `other`.
     ///
     /// ```
     /// assert!(bucket::Set::from([1]).is_subset(&bucket::Set::from([1, 2])));
@@ -94,7 +94,7 @@ impl<K: Key> Set<K> {
         self.len() <= other.len() && self.iter().all(|key| other.contains(key))
     }
 
-    /// Whether each key of `other` is in this set.
+    /// Returns `true` if each key of `other` is in this set.
     ///
     /// ```
     /// assert!(bucket::Set::from([1, 2]).is_superset(&bucket::Set::from([1])));
@@ -182,8 +182,8 @@ macro_rules! operators {
     ($($(#[$about:meta])* $name:ident $call:ident $iterator:ident;)*) => { $(
         $(#[$about])*
         ///
-        /// Ends in [`handle_alloc_error`](std::alloc::handle_alloc_error) if an allocation fails; [`Set::try_from_iter`] of
-        /// copied keys answers that by an error.
+        /// Calls [`handle_alloc_error`](std::alloc::handle_alloc_error) if an allocation fails;
+        /// [`Set::try_from_iter`] of copied keys returns an error instead.
         impl<K: Key + Clone> $name<&Set<K>> for &Set<K> {
             type Output = Set<K>;
 
@@ -195,7 +195,7 @@ macro_rules! operators {
 }
 
 operators! {
-    /// A set of the keys that are in either.
+    /// Returns a set of the keys in either set.
     ///
     /// ```
     /// use bucket::Set;
@@ -203,7 +203,7 @@ operators! {
     /// assert_eq!(&Set::from([1, 2]) | &Set::from([2, 3]), Set::from([1, 2, 3]));
     /// ```
     BitOr bitor union;
-    /// A set of the keys that are in both.
+    /// Returns a set of the keys in both sets.
     ///
     /// ```
     /// use bucket::Set;
@@ -211,7 +211,7 @@ operators! {
     /// assert_eq!(&Set::from([1, 2]) & &Set::from([2, 3]), Set::from([2]));
     /// ```
     BitAnd bitand intersection;
-    /// A set of the keys that are in one of both alone.
+    /// Returns a set of the keys in exactly one of the two sets.
     ///
     /// ```
     /// use bucket::Set;
@@ -219,7 +219,7 @@ operators! {
     /// assert_eq!(&Set::from([1, 2]) ^ &Set::from([2, 3]), Set::from([1, 3]));
     /// ```
     BitXor bitxor symmetric_difference;
-    /// A set of the keys that are in the first alone.
+    /// Returns a set of the keys in the first set only.
     ///
     /// ```
     /// use bucket::Set;

@@ -1,4 +1,4 @@
-//! Iterators over keys. None takes memory, and all steps together are O(slots).
+//! Iterators over keys. None allocates, and all steps together are O(slots).
 
 use super::Set;
 use crate::map::{self, Map};
@@ -7,16 +7,16 @@ use crate::Key;
 use std::fmt;
 use std::iter::FusedIterator;
 
-/// The keys that are left, in no promised order. [`Set::iter`] makes it.
+/// An iterator over keys, in no particular order. Created by [`Set::iter`].
 pub struct Iter<'a, K>(pub(super) map::Keys<'a, K, ()>);
 
-/// The keys that are left of a set that was given away, in no promised order.
+/// An owning iterator over a set's keys, in no particular order.
 pub struct IntoIter<K>(pub(super) map::IntoKeys<K, ()>);
 
-/// The keys that are left of those that a set had, in no promised order. [`Set::drain`] makes it.
+/// A draining iterator over a set's keys, in no particular order. Created by [`Set::drain`].
 pub struct Drain<'a, K>(pub(super) map::Drain<'a, K, ()>);
 
-/// The keys that a closure takes out of a set. [`Set::extract_if`] makes it.
+/// An iterator over the keys that a closure removes from a set. Created by [`Set::extract_if`].
 #[must_use = "iterators are lazy: `retain` removes keys that nobody wants"]
 pub struct ExtractIf<'a, K, F> {
     sieve: Sieve<'a, K, ()>,
@@ -89,14 +89,14 @@ impl<K> FusedIterator for IntoIter<K> {}
 impl<K> FusedIterator for Drain<'_, K> {}
 impl<K: Key, F: FnMut(&K) -> bool> FusedIterator for ExtractIf<'_, K, F> {}
 
-/// Gives nothing.
+/// Yields nothing.
 impl<K> Default for Iter<'_, K> {
     fn default() -> Self {
         Iter(map::Keys::default())
     }
 }
 
-/// Gives nothing.
+/// Yields nothing.
 impl<K> Default for IntoIter<K> {
     fn default() -> Self {
         IntoIter(map::IntoKeys::default())

@@ -4,7 +4,7 @@
 use std::cell::Cell;
 use std::rc::Rc;
 
-/// Numbers by chance, from a seed on.
+/// Random numbers from a seed.
 pub struct Chance(pub u64);
 
 impl Chance {
@@ -21,13 +21,13 @@ impl Chance {
     }
 }
 
-/// How many calls a test by chance makes. Where each of them is slow, as under valgrind, the environment may say
-/// fewer.
+/// How many calls a random test makes. Where each of them is slow, as under valgrind, the environment may set a
+/// smaller number.
 pub fn calls() -> usize {
     std::env::var("BUCKET_CALLS").ok().and_then(|calls| calls.parse().ok()).unwrap_or(200_000)
 }
 
-/// How many counted values are there, and how many were dropped.
+/// How many counted values exist, and how many were dropped.
 #[derive(Clone, Default)]
 pub struct Tally(Rc<(Cell<isize>, Cell<usize>)>);
 
@@ -37,7 +37,7 @@ impl Tally {
         Counted { number, tally: self.clone(), panics: false }
     }
 
-    /// A value that panics as it is dropped.
+    /// A value that panics when it is dropped.
     pub fn panicking(&self, number: u64) -> Counted {
         let mut value = self.value(number);
         value.panics = true;

@@ -1,20 +1,19 @@
-//! A `malloc` that refuses, for the crate and for the library that it links: a program's own takes the place of
-//! glibc's.
+//! A `malloc` that can fail, for the crate and for the library that it links: it replaces glibc's.
 
 use std::cell::Cell;
 use std::ffi::{c_int, c_void};
 use std::ptr::null_mut;
 
 thread_local! {
-    /// How many requests of this thread are granted before one is refused.
+    /// How many requests of this thread are granted before one fails.
     static GRANTED: Cell<usize> = const { Cell::new(usize::MAX) };
-    /// Whether those after it are refused too.
+    /// Whether the requests after it fail too.
     static ALL_AFTER: Cell<bool> = const { Cell::new(false) };
-    /// How many there were.
+    /// How many requests there were.
     static ASKED: Cell<usize> = const { Cell::new(0) };
-    /// How many were refused.
+    /// How many failed.
     static REFUSED: Cell<usize> = const { Cell::new(0) };
-    /// How many blocks this thread has taken, less those that it gave back.
+    /// How many blocks this thread has allocated, less those that it freed.
     static HELD: Cell<isize> = const { Cell::new(0) };
 }
 
@@ -87,8 +86,8 @@ unsafe extern "C" fn free(block: *mut c_void) {
     unsafe { __libc_free(block) }
 }
 
-/// Makes a call whose first requests are granted, and then one refused, or all. Returns its answer, and how many
-/// were refused.
+/// Makes a call whose first requests are granted, and then one fails, or all. Returns the call's result, and how many
+/// requests failed.
 pub fn granting<T>(granted: usize, all_after: bool, call: impl FnOnce() -> T) -> (T, usize) {
     REFUSED.set(0);
     ALL_AFTER.set(all_after);

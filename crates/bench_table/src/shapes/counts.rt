@@ -1,5 +1,5 @@
-//! The calls that only count. Two maps are asked in an irregular order, so that a compiler can't
-//! answer once for all calls.
+//! Calls that only count. Two maps are called in an irregular order, so that a compiler can't
+//! compute one result for all calls.
 use crate::shapes::print_shape;
 use bucket_table::key_hash::KeyHash;
 use bucket_table::script::ScriptHash;
@@ -13,7 +13,7 @@ const CALLS: u64 = 1000;
 /// How often `size_hint` is called.
 const HINTS: u64 = 10;
 
-/// Prints what the calls take on a map of so many pairs.
+/// Prints the cost of the calls on a map of that many pairs.
 pub(crate) fn run_counts(rt: &HostRuntime, pairs: u64) -> io::Result<()> {
     let mut maps: Vec<HashMap<u64, u64>> = Vec::new(rt.alloc());
     for _ in 0..2 {
@@ -22,7 +22,7 @@ pub(crate) fn run_counts(rt: &HostRuntime, pairs: u64) -> io::Result<()> {
     run_calls(rt, "counts", &maps)
 }
 
-/// Prints what the calls take on a map of so many keys that all have one hash.
+/// Prints the cost of the calls on a map of that many keys that all have one hash.
 pub(crate) fn run_crowd(rt: &HostRuntime, pairs: u64) -> io::Result<()> {
     let mut maps: Vec<HashMap<u64, u64, ScriptHash>> = Vec::new(rt.alloc());
     for _ in 0..2 {
@@ -40,7 +40,7 @@ fn fill<H: KeyHash<u64>>(mut map: HashMap<u64, u64, H>, pairs: u64) -> HashMap<u
     map
 }
 
-/// Prints what each call takes.
+/// Prints the cost of each call.
 fn run_calls<H: KeyHash<u64>>(
     rt: &HostRuntime,
     kind: &str,
@@ -57,14 +57,14 @@ fn run_calls<H: KeyHash<u64>>(
     print_shape(rt, start, HINTS, sum, kind, "iter().size_hint()")
 }
 
-/// The next state of an irregular order, whose upper bit says which map is asked.
+/// The next state of an irregular order, whose upper bit selects the map.
 fn next_state(state: u64) -> u64 {
     state
         .wrapping_mul(6364136223846793005)
         .wrapping_add(1442695040888963407)
 }
 
-/// The sum of what `len` returns.
+/// Returns the sum of the results of `len`.
 #[inline(never)]
 fn lens<H: KeyHash<u64>>(maps: &[HashMap<u64, u64, H>]) -> u64 {
     let mut state: u64 = 0;
@@ -78,7 +78,7 @@ fn lens<H: KeyHash<u64>>(maps: &[HashMap<u64, u64, H>]) -> u64 {
     sum
 }
 
-/// How often `is_empty` returns `true`.
+/// Returns how often `is_empty` returns `true`.
 #[inline(never)]
 fn empties<H: KeyHash<u64>>(maps: &[HashMap<u64, u64, H>]) -> u64 {
     let mut state: u64 = 0;
@@ -94,7 +94,7 @@ fn empties<H: KeyHash<u64>>(maps: &[HashMap<u64, u64, H>]) -> u64 {
     count
 }
 
-/// The sum of the lower bounds that `size_hint` returns.
+/// Returns the sum of the lower bounds that `size_hint` returns.
 #[inline(never)]
 fn hints<H: KeyHash<u64>>(maps: &[HashMap<u64, u64, H>]) -> u64 {
     let mut state: u64 = 0;

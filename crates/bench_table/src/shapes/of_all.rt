@@ -22,7 +22,7 @@ pub(crate) fn copied<C: Shaped>(alloc: Global, from: C) -> io::Result<C> {
     Ok(to)
 }
 
-/// Copies by a loop that goes backwards.
+/// Copies by a loop in reverse order.
 pub(crate) fn reversed<C: Shaped>(alloc: Global, from: C) -> io::Result<C> {
     let keys = from.listed(alloc)?;
     let mut to = C::make(alloc);
@@ -51,7 +51,7 @@ pub(crate) fn removed<C: Shaped>(alloc: Global, mut from: C) -> io::Result<C> {
     Ok(from)
 }
 
-/// Removes each pair, backwards.
+/// Removes each pair, in reverse order.
 pub(crate) fn removed_back<C: Shaped>(alloc: Global, mut from: C) -> io::Result<C> {
     let keys = from.listed(alloc)?;
     for key in keys.iter().rev() {
@@ -66,7 +66,7 @@ pub(crate) fn halved<C: Shaped>(_alloc: Global, mut from: C) -> io::Result<C> {
     Ok(from)
 }
 
-/// Removes all pairs and inserts as many in rising order.
+/// Removes all pairs and inserts as many in ascending order.
 pub(crate) fn refilled<C: Shaped>(_alloc: Global, mut from: C) -> io::Result<C> {
     let pairs = from.count();
     from.wipe();
@@ -97,7 +97,7 @@ fn three<C: Shaped>(alloc: Global) -> C {
     made
 }
 
-/// Inserts and removes in a collection that is empty between.
+/// Inserts and removes in a collection that is empty in between.
 pub(crate) fn alternated<C: Shaped>(_alloc: Global, mut from: C) -> io::Result<C> {
     for key in 0..ROUNDS {
         from.put(key);

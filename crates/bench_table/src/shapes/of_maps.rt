@@ -1,4 +1,4 @@
-//! The shapes of a map alone.
+//! The shapes of maps only.
 use crate::shapes::of_all::ROUNDS;
 use crate::shapes::shaped::Map;
 use std::alloc::Global;
@@ -27,14 +27,14 @@ pub(crate) fn extended(alloc: Global, from: Map) -> io::Result<Map> {
     Ok(to)
 }
 
-/// The same by the call that loses no pair.
+/// The same with the call that loses no pair.
 pub(crate) fn extended_all(alloc: Global, from: Map) -> io::Result<Map> {
     let mut to = Map::new(alloc);
     to.try_extend(&mut from.into_iter())?;
     Ok(to)
 }
 
-/// Drains the pairs to a `Vec` and inserts them again.
+/// Drains the pairs into a `Vec` and inserts them again.
 pub(crate) fn drained(alloc: Global, mut from: Map) -> io::Result<Map> {
     let pairs: Vec<(u64, u64)> = from.drain().collect(alloc)?;
     for pair in &pairs {

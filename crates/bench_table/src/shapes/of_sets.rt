@@ -1,4 +1,4 @@
-//! The shapes of a set alone.
+//! The shapes of sets only.
 use crate::shapes::of_all::filled;
 use crate::shapes::shaped::Set;
 use std::alloc::Global;
@@ -39,14 +39,14 @@ pub(crate) fn extended(alloc: Global, from: Set) -> io::Result<Set> {
     Ok(to)
 }
 
-/// The same by the call that loses no key.
+/// The same with the call that loses no key.
 pub(crate) fn extended_all(alloc: Global, from: Set) -> io::Result<Set> {
     let mut to = Set::new(alloc);
     to.try_extend(&mut from.into_iter())?;
     Ok(to)
 }
 
-/// Drains the keys to a `Vec` and inserts them again.
+/// Drains the keys into a `Vec` and inserts them again.
 pub(crate) fn drained(alloc: Global, mut from: Set) -> io::Result<Set> {
     let keys: Vec<u64> = from.drain().collect(alloc)?;
     for key in &keys {
@@ -62,14 +62,14 @@ pub(crate) fn extracted(alloc: Global, mut from: Set) -> io::Result<Set> {
     Ok(to)
 }
 
-/// Collects the keys of two sets.
+/// Collects the keys in either of two sets.
 pub(crate) fn united(alloc: Global, from: TwoSets) -> io::Result<Set> {
     let (one, other) = from;
     let to: Set = one.union(&other).copied().collect(alloc)?;
     Ok(to)
 }
 
-/// Collects the keys that two sets have in common.
+/// Collects the keys in both of two sets.
 pub(crate) fn intersected(alloc: Global, from: TwoSets) -> io::Result<Set> {
     let (one, other) = from;
     let to: Set = one.intersection(&other).copied().collect(alloc)?;

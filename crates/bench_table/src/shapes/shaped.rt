@@ -1,4 +1,4 @@
-//! What the four collections have in common: numbers under the default hash, each its own value.
+//! What the four collections share: numbers with the default hash, each its own value.
 use collections::DefaultHash;
 use collections::hash_cache::HashCache;
 use collections::hash_index::HashIndex;
@@ -51,7 +51,7 @@ pub(crate) type Index = HashIndex<u64, u64>;
 /// A cache.
 pub(crate) type Cache = HashCache<u64, u64>;
 
-/// The most slots of a cache: at least four for each pair that comes.
+/// The maximum number of slots of a cache: at least four for each pair that comes.
 const MOST_SLOTS: usize = 1 << 21;
 
 impl Shaped for Map {

@@ -1,4 +1,4 @@
--- How a line is read: its verb says which form it has, and the parts after the verb follow.
+-- How a line is read: its verb determines its form, and the parts after the verb follow.
 use Rattle.std.specs.Prelude.{ℕ, ◌≡◌, List, ◌++◌, codes}
 use Rattle.bhtable.specs.Requests.{Asks, IsInRange, call_line, question_word, request_line}
 use Rattle.bhtable.specs.Words.{Part}

@@ -12,7 +12,7 @@ abbrev pub lines_of_replies : List (Reply ℕ ℕ) → List ℕ
 lines_of_replies [] = []
 lines_of_replies (reply ∷ replies) = line_of (text_of reply) ++ lines_of_replies replies
 
--- these lines were appended before an allocation failed, or before the writer failed, which loses what waits
+-- these lines were appended before an allocation failed, or before the writer failed, which loses the waiting text
 abbrev pub IsLeftBy : Stop → Option (List ℕ) → List ℕ → Option (List ℕ) → List ℕ → List ℕ → Type 0
 IsLeftBy (BadLine number) old waiting new left lines = ⊥
 IsLeftBy NoMemory old waiting new left lines = HasGrown old waiting new left lines

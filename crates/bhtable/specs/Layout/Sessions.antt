@@ -1,4 +1,4 @@
--- What a session holds of the lines that it took.
+-- What a session holds of the lines that it has taken.
 use Rattle.std.specs.Prelude.{ℕ, ◌≡◌, ◌⊎◌, ◌+◌, ◌≤◌, List, [], ◌∷◌, ◌++◌, Option, None, Some, Result, Ok, Err, length}
 use Rattle.bucket_slots.specs.declared.bucket.TheConstants.{CACHE, INDEX, MAP}
 use Rattle.bucket_table.specs.Views.ArraysView.{TableView}
@@ -90,7 +90,7 @@ pub record HasFoundBad (start output : Option (List ℕ)) (session : Session) (l
   pub taken : HasTaken start output session first
   pub unreadable : IsUnreadable (table_at_hand session.table) line
 
--- the writer failed: no call waits and no reply, and what the output lacks of the answers of the first lines is lost
+-- the writer failed: neither a call nor a reply waits, and the missing part of the first lines' answers is lost
 pub record HasFailed (start output : Option (List ℕ)) (session : Session) (lines : List (List ℕ)) : Type 0 where
   pub no_call : session.calls.items ≡ []
   pub no_reply : session.replies ≡ []
@@ -104,14 +104,14 @@ HasStopped NoMemory start output session lines = HasTakenSome start output sessi
 HasStopped InputFailed start output session lines = ⊥
 HasStopped OutputFailed start output session lines = HasFailed start output session lines
 
--- a stop at a bad line comes at a line that can't be read
+-- a stop at a bad line happens at a line that can't be read
 abbrev pub IsBadAt : Stop → Option ScriptTable → List ℕ → Type 0
 IsBadAt (BadLine number) table line = IsUnreadable table line
 IsBadAt NoMemory table line = Unit {0}
 IsBadAt InputFailed table line = Unit {0}
 IsBadAt OutputFailed table line = Unit {0}
 
--- what is taken of all lines of an input when reading ends so
+-- what is taken of all lines of an input if reading ends so
 abbrev pub HasEnded : Result (Unit {0}) Stop → Option (List ℕ) → Option (List ℕ) → Session → List (List ℕ) → Type 0
 HasEnded (Ok done) start output session lines = HasTaken start output session lines
 HasEnded (Err (BadLine number)) start output session lines = HasFoundBad start output session lines number

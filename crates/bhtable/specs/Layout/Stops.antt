@@ -1,4 +1,4 @@
--- What is in the output when a script ends, also before its input does.
+-- What is in the output when a script ends, even before its input does.
 use Rattle.std.specs.Prelude.{ℕ, ◌≡◌, ◌⊎◌, List, [], Option, IfSome, codes}
 use Rattle.std.specs.Io.KnownBytes.{Appends}
 use Rattle.bhtable.specs.Growing.{IsCutOff}
@@ -18,7 +18,7 @@ IsLack NoMemory = Unit {0}
 IsLack InputFailed = ⊥
 IsLack OutputFailed = Unit {0}
 
--- the output up to a stop, before a last line that tells of it; a writer that failed has a prefix
+-- the output up to a stop, before a last line that reports it; a writer that failed has a prefix
 abbrev pub IsOutputUpTo : Stop → List (List ℕ) → Option (List ℕ) → Option (List ℕ) → Type 0
 IsOutputUpTo (BadLine number) lines old new = HasBadLine lines old new
 IsOutputUpTo NoMemory lines old new = HasAnsweredSome lines old new []

@@ -1,4 +1,4 @@
--- What a clause reads of a window.
+-- What clauses read of a window.
 use Rattle.std.specs.Prelude.{ℕ, List, slice_range}
 use Rattle.bhtable.specs.declared.lines.window.Window.{Window}
 

@@ -11,7 +11,7 @@ use std::io::{ErrorKind, Read};
 // How many bytes it has room for.
 const WINDOW_LEN: usize = 64 * 1024;
 
-/// A window: bytes `start` to `end` are read and not yet passed, and after them is room.
+/// A window: bytes `start` to `end` are read and not yet passed; the room is after them.
 #[derive(Drop)]
 pub(crate) struct Window {
     bytes: Vec<u8>,
@@ -37,7 +37,7 @@ impl Window {
         })
     }
 
-    /// What is read and not yet passed.
+    /// Returns the bytes that are read and not yet passed.
     pub(crate) fn unread(&self) -> &[u8]
         ensures { result.now ≡ unread self.now }
     {

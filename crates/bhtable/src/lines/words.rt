@@ -1,6 +1,6 @@
 //! The words of a line, and the numbers that they write.
 //!
-//! Model: the parts of what isn't read yet, each a number or another text. Words are separated by
+//! Model: the parts that aren't read yet, each a number or another text. Words are separated by
 //! blanks, which are spaces and tabs; a number is 1 to 20 decimal digits, below 2^64.
 ghost use Rattle.std.specs.Prelude.{◌≡◌, ℕ, ◌<◌, ◌≤◌, true, false, List, [], ◌∷◌, is_some, length};
 ghost use Rattle.std.specs.Prelude.{take, drop, slice_index, IfSome, MatchOption};
@@ -10,7 +10,7 @@ ghost use Rattle.bhtable.specs.Words.{with_word, words_of};
 
 use std::marker::Model;
 
-// The most digits of a number.
+// The maximum number of digits of a number.
 const LONGEST_NUMBER: usize = 20;
 
 /// The words of a line that aren't read yet.
@@ -46,8 +46,8 @@ impl<'a> Words<'a> {
         if len == 0 { None } else { Some(&rest[..len]) }
     }
 
-    /// Reads the next word and returns its number. `None` if no word is left, or if the next one is
-    /// no number.
+    /// Reads the next word and returns its number. `None` if no word is left, or if the next one
+    /// isn't a number.
     ///
     /// O(bytes up to the end of the word).
     pub(crate) fn number(&mut self) -> Option<u64>
@@ -59,9 +59,9 @@ impl<'a> Words<'a> {
     }
 }
 
-/// Returns the number of a line that has nothing else, not even blanks.
+/// Returns the number of a line that contains nothing else, not even blanks.
 ///
-/// For any other line it returns `None`, of which no clause speaks.
+/// For other lines it returns `None`, but the contract doesn't say so.
 pub(crate) fn lone_number(line: &[u8]) -> Option<u64>
     ensures { IfSome result (λ value. parts_of line.now ≡ number value ∷ []) }
 {
@@ -70,7 +70,7 @@ pub(crate) fn lone_number(line: &[u8]) -> Option<u64>
 
 /// Returns the two numbers of a line that has no other word.
 ///
-/// For any other line it returns `None`, of which no clause speaks.
+/// For other lines it returns `None`, but the contract doesn't say so.
 pub(crate) fn two_numbers(line: &[u8]) -> Option<(u64, u64)>
     ensures { IfSome result (λ pair. parts_of line.now ≡ number pair.0 ∷ number pair.1 ∷ []) }
 {

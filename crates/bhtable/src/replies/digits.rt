@@ -6,11 +6,11 @@ ghost use Rattle.bhtable.specs.OutputLines.{line_of};
 
 use std::alloc::AllocError;
 
-/// Appends the line of a word, with the blank after it, and two numbers.
+/// Appends a line with a word, the blank after it, and two numbers.
 ///
 /// # Errors
 ///
-/// Allocation failure: the text still begins with what it had.
+/// Allocation failure: the text still begins with its earlier bytes.
 ///
 /// O(bytes of the word).
 pub(crate) fn append_pair(
@@ -28,11 +28,11 @@ pub(crate) fn append_pair(
     append_number(text, second, b'\n')
 }
 
-/// Appends the line of a word, with the blank after it, and a number.
+/// Appends a line with a word, the blank after it, and a number.
 ///
 /// # Errors
 ///
-/// Allocation failure: the text still begins with what it had.
+/// Allocation failure: the text still begins with its earlier bytes.
 ///
 /// O(bytes of the word).
 #[inline(always)]

@@ -3,7 +3,7 @@ use super::{check_text, rows};
 use std::io::Write;
 use std::test::Fail;
 
-// Inputs, with all of their output and the status.
+// Inputs, with their whole output and the status.
 const TEXTS: [(&str, &str, u8); 17] = [
     ("", "", 0),
     ("\n\r\n \t \n", "", 0),
@@ -65,7 +65,7 @@ fn texts_are_read_to_their_end_or_to_a_bad_line(rt: HostRuntime) -> Result<(), F
     Ok(())
 }
 
-// Lines, none of which can be read as the first. Calls and questions need a table.
+// Lines, none of which can be read as the first line. Calls and questions need a table.
 const FIRST: &[&[u8]] = rows! {
     b"peek 1", b"count", b"start", b"slots", b"word", b"epoch 0 keep", b"remove 1", b"walk",
     b"new map id 0 100", b"new map id 65 64", b"new map id 0 32", b"new map id 0 0",
@@ -75,8 +75,9 @@ const FIRST: &[&[u8]] = rows! {
     b"new cache id 0 100", b"new cache 0 64", b"newmap id 0 64", b"new map id -1 64"
 };
 
-// Lines, none of which can be read behind that of a table: with too few words or too many, or with
-// other words; with what is no number; with other bytes as parts of words; that are no text.
+// Lines, none of which can be read after that of a table: with too few words or too many, or with
+// other words; with a word that isn't a number; with other bytes as parts of words; that aren't
+// text.
 const SECOND: &[&[u8]] = rows! {
     b"put", b"put 1", b"put 1 2 3", b"peek", b"peek 1 2", b"remove 1 2", b"write 1",
     b"write 1 2 3", b"read", b"read 1 2", b"touch", b"touch 1 2", b"evict", b"evict 1 2",
@@ -113,8 +114,8 @@ fn a_line_that_cannot_be_read_ends_the_script(rt: HostRuntime) -> Result<(), Fai
     Ok(())
 }
 
-// How long a second line is before what ends it, with spaces before its words; and what is answered
-// to it, with the status.
+// The length of a second line without what ends it, with spaces before its words; and its answer,
+// with the status.
 const LENGTHS: [(usize, &str, &str, &str, u8); 18] = [
     (4096, "count", "\n", "ok\n0\n", 0),
     (4096, "count", "\r\n", "ok\n0\n", 0),
@@ -133,7 +134,7 @@ const LENGTHS: [(usize, &str, &str, &str, u8); 18] = [
     (4097, "", "\r\n", "ok\nbad line 2\n", 2),
     (4097, "", "", "ok\nbad line 2\n", 2),
     (4097, "", "\r", "ok\nbad line 2\n", 2),
-    // One carriage return is dropped, and no more.
+    // One carriage return is dropped, but not two.
     (4095, "peek 1", "\r\r\n", "ok\nbad line 2\n", 2),
     (200_000, "", "", "ok\nbad line 2\n", 2),
 ];

@@ -1,4 +1,4 @@
-//! What a cache answers.
+//! The answers of a cache.
 use super::Row::{Each, Say};
 use super::{Row, Story, rows};
 
@@ -34,14 +34,14 @@ pub(super) const STORIES: &[Story] = rows! {
     ("pairs that overflow are not evicted", rows! { FULL, rows! {
         Each(32, 40, "put # #", "ok"), Each(0, 40, "touch #", "ok"), Say("evict 0", "pair 0 0"),
         Say("count", "39"), Say("evict 0", "nothing") } }),
-    // The old pairs move on at the look-up: the two that were touched go in the order in which they
-    // were touched, and then that of the first slot.
+    // The look-up moves the old pairs: the two that were touched are evicted in the order in which
+    // they were touched, and then the pair of the first slot.
     ("touches are remembered over a growth", rows! { TWO_BUCKETS, rows! {
         Say("touch 3", "ok"), Say("touch 5", "ok"), Say("put 31 31", "ok"), Say("slots", "128"),
         Say("read 0", "value 0"), Say("evict 0", "pair 3 3"), Say("evict 0", "nothing"),
         Say("put 3 3", "ok"), Say("evict 0", "pair 5 5"), Say("put 5 5", "ok"),
         Say("evict 0", "pair 0 0") } }),
-    // One old bucket is left without a pair; the other has 152 to 158, and 158 was touched first.
+    // One old bucket has no pair left; the other has 152 to 158, and 158 was touched first.
     ("touches are remembered over a shrinkage", rows! { TWO_BUCKETS, rows! {
         Say("put 31 31", "ok"), Say("slots", "128"), Each(128, 152, "remove #", "pair # #"),
         Say("touch 158", "ok"), Say("touch 152", "ok"), Each(0, 32, "remove #", "pair # #"),

@@ -1,4 +1,4 @@
-//! Readers that give little or fail, writers that fail, and the order of reads and writes.
+//! Readers that return few bytes or fail, writers that fail, and the order of reads and writes.
 use super::{check_same, check_text};
 use crate::serve;
 use std::alloc::Global;
@@ -12,7 +12,7 @@ const SCRIPT: &str = "new map id 0 64\nput 1 10\npeek 1\n";
 
 const REPLIES: &str = "ok\nok\nvalue 10\n";
 
-// Gives its bytes a few at a time, and fails at one of its reads.
+// Returns its bytes a few at a time, and fails at one of its reads.
 #[derive(Drop)]
 struct Pieces<'a> {
     rest: &'a [u8],
@@ -35,8 +35,8 @@ impl Read for Pieces<'_> {
     }
 }
 
-// How many bytes a reader gives at a time, after how many reads it fails, how, what comes out then,
-// and the status.
+// How many bytes a reader returns at a time, after how many reads it fails, how, what is output
+// then, and the status.
 const READERS: [(usize, usize, ErrorKind, &str, u8); 23] = [
     (1, 1000, ErrorKind::Other, REPLIES, 0),
     (2, 1000, ErrorKind::Other, REPLIES, 0),
@@ -44,7 +44,7 @@ const READERS: [(usize, usize, ErrorKind, &str, u8); 23] = [
     (7, 1000, ErrorKind::Other, REPLIES, 0),
     (20, 1000, ErrorKind::Other, REPLIES, 0),
     (64, 1000, ErrorKind::Other, REPLIES, 0),
-    // A read that is interrupted is made again.
+    // An interrupted read is repeated.
     (5, 0, ErrorKind::Interrupted, REPLIES, 0),
     (5, 1, ErrorKind::Interrupted, REPLIES, 0),
     (5, 2, ErrorKind::Interrupted, REPLIES, 0),
@@ -57,7 +57,7 @@ const READERS: [(usize, usize, ErrorKind, &str, u8); 23] = [
     (5, 9, ErrorKind::Interrupted, REPLIES, 0),
     (5, 10, ErrorKind::Interrupted, REPLIES, 0),
     (5, 11, ErrorKind::Interrupted, REPLIES, 0),
-    // What came before the input failed is answered.
+    // The lines before the failed input are answered.
     (10, 0, ErrorKind::Other, "input failed\n", 4),
     (10, 1, ErrorKind::Other, "input failed\n", 4),
     (10, 2, ErrorKind::Other, "ok\ninput failed\n", 4),
@@ -87,7 +87,7 @@ fn lines_that_come_in_pieces_are_answered_until_the_input_fails(
     Ok(())
 }
 
-// Takes bytes a few at a time, and fails at one of its writes alone.
+// Takes bytes a few at a time, and fails at exactly one of its writes.
 #[derive(Drop)]
 struct Sink<'a> {
     written: &'a mut Vec<u8>,
@@ -113,7 +113,7 @@ impl Write for Sink<'_> {
     }
 }
 
-// What is written where a writer of five bytes at a time fails after this many writes.
+// The output if a writer of five bytes at a time fails after this many writes.
 const OUTPUT_FAULTS: [(usize, &str, u8); 6] = [
     (0, "", 4),
     (1, "ok\nok", 4),
@@ -141,7 +141,7 @@ fn repeats_a_write_that_is_interrupted(rt: HostRuntime) -> Result<(), Fail> {
     Ok(())
 }
 
-// What is written with a fault after this many writes, and the status then.
+// The output with a fault after this many writes, and the status then.
 fn check_fault(
     rt: &impl Abort,
     alloc: Global,
@@ -172,7 +172,7 @@ fn serve_into(
     serve(alloc, script.as_slice(), &mut output)
 }
 
-// Says the next line once the one before it is answered, and fails where it isn't.
+// Sends the next line after the one before it is answered, and fails if it isn't.
 #[derive(Drop)]
 struct Speaker<'a> {
     lines: &'a [&'a str],

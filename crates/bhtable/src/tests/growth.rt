@@ -1,4 +1,4 @@
-//! How many slots a table has as it grows and shrinks.
+//! The number of slots of a table while it grows and shrinks.
 use super::Row::{Each, Say};
 use super::{Row, Story, rows};
 

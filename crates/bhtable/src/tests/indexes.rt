@@ -1,4 +1,4 @@
-//! What an index answers, and what epochs do to it.
+//! The answers of an index, and what epochs do to it.
 use super::Row::{Each, Say};
 use super::{Row, Story, rows};
 
@@ -6,8 +6,8 @@ use super::{Row, Story, rows};
 const ONE_KEY: &[Row] = rows! { Say("new index zero 0 64\nput 0 0", "ok\nok") };
 
 pub(super) const STORIES: &[Story] = rows! {
-    // Each slot of a removed pair is marked with an epoch that is equal to its hash's byte. Once
-    // the marks go, those slots are taken again.
+    // The tombstone of each removed pair has an epoch that equals its hash's byte. Once the
+    // tombstones are dropped, those slots are used again.
     ("removed keys are absent while their marks are kept and after", rows! { rows! {
         Say("new index zero 0 9223372036854775808", "ok"), Each(0, 32, "put # #", "ok"),
         Each(0, 4, "remove #", "pair # #"), Say("peek 0", "absent"), Say("read 3", "absent"),
@@ -16,7 +16,7 @@ pub(super) const STORIES: &[Story] = rows! {
         Say("epoch 0 drop", "ok"), Say("put 33 33", "ok"), Say("count", "30"),
         Say("peek 0", "absent"), Say("peek 32", "value 32"), Say("put 0 40", "ok"),
         Say("peek 0", "value 40") } }),
-    // Key 1 has the hash 1, so that epoch 1 is equal to its byte.
+    // Key 1 has the hash 1, so epoch 1 equals its byte.
     ("a key comes again beside its marks", rows! { rows! {
         Say("new index id 0 64", "ok"),
         Each(0, 40, "epoch 1 keep\nput 1 1#\nremove 1\nremove 1", "ok\nok\npair 1 1#\nabsent"),

@@ -1,4 +1,4 @@
-//! What a map answers.
+//! The answers of a map.
 use super::Row::{Each, Say};
 use super::{Story, rows};
 
@@ -37,7 +37,7 @@ pub(super) const STORIES: &[Story] = rows! {
         Say("put 39 0", "present"), Say("put 31 0", "present"),
         Each(0, 40, "read #\nremove #\nread #", "value 1#\npair # 1#\nabsent"),
         Say("count", "0"), Say("has", "false"), Say("slots", "0") } }),
-    // More replies than are held at once, and more calls than a table is given at once.
+    // More replies than are buffered at once, and more calls than a table is given at once.
     ("a long script has a reply to every line", rows! { rows! {
         Say("new map id 0 64", "ok"), Say("put 7 12345678901234567890", "ok"),
         Each(0, 3000, "peek 7\npeek 8", "value 12345678901234567890\nabsent") } })

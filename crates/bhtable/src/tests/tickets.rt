@@ -1,16 +1,16 @@
-//! Tickets for the units of an old array: given out, worked, ended, left lying and given out again.
+//! Tickets for the units of an old array: issued, worked, ended, abandoned and issued again.
 use super::Row::{Each, Say};
 use super::{Row, Story, rows};
 
-// A table of 8,192 slots beside an old array of 128 buckets, two units, which has the pair.
+// A table of 8,192 slots with an old array of 128 buckets, two units, which has the pair.
 const TWO_UNITS: &[Row] = rows! {
     Say("new map spread 4096 9223372036854775808", "ok"), Say("put 5 50", "ok"),
     Say("peek 5", "value 50"), Say("reserve 4096", "4096"), Say("peek 5", "value 50"),
     Say("slots", "8192"), Say("word", "0")
 };
 
-// Lines with their replies, and behind each the rehash word and a look at the pair. The word is
-// 2048 times the next unit, and the number of open tickets.
+// Lines with their replies, each followed by the rehash word and a look at the pair. The word is
+// 2048 times the next unit, plus the number of open tickets.
 macro_rules! tickets {
     ($($line:literal => $reply:literal, $word:literal;)+) => {
         &[$(Say(
@@ -20,7 +20,7 @@ macro_rules! tickets {
     };
 }
 
-// Work on buckets one after another, seen in the same way.
+// Work on buckets one after another, observed in the same way.
 macro_rules! works {
     ($from:literal, $to:literal, $word:literal) => {
         &[Each($from, $to, "work #\nword\npeek 5", concat!("ok\n", $word, "\nvalue 50"))]
@@ -70,8 +70,8 @@ pub(super) const STORIES: &[Story] = rows! {
         "end 0 fail" => "stays", "2046";
         "end 2048 fail" => "stays", "2045";
     } }),
-    // The second unit's first ticket is left lying while the first unit fails, so that both are
-    // handed out anew.
+    // The second unit's first ticket is abandoned while the first unit fails, so that both are
+    // issued again.
     ("a ticket ends as often as it was handed out", rows! { TWO_UNITS, tickets! {
         "start" => "ticket 0", "2049";
         "start" => "ticket 2048", "4098";
@@ -84,7 +84,7 @@ pub(super) const STORIES: &[Story] = rows! {
         "end 2048 done" => "refused 1", "4097";
         "end 0 done" => "gone", "none";
     } }),
-    // All buckets are done, and yet the unit that failed is handed out again.
+    // All buckets are done, and yet the unit that failed is issued again.
     ("units end out of order", rows! { TWO_UNITS, tickets! {
         "start" => "ticket 0", "2049";
         "start" => "ticket 2048", "4098";

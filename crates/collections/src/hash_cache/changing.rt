@@ -18,11 +18,11 @@ use bucket_table::key_hash::KeyHash;
 impl<K: Eq + Drop, V: Drop, H: KeyHash<K>> HashCache<K, V, H> {
     ghost use Rattle.collections.specs.CacheLends.{LendsValue};
 
-    /// Calls a function with the pair under a key, or under the keys that a form stands for, its
-    /// value mutable, and returns what the function returns; `None` if the cache hasn't the key.
-    /// The pair isn't touched: its place in the LRU order stays.
+    /// Calls a function with the key and a mutable reference to the value under `key`, a key or a
+    /// form of one, and returns what the function returns; `None` if the cache does not contain the
+    /// key. The pair isn't touched: its place in the LRU order stays.
     ///
-    /// Never fails. O(1) expected. Own.
+    /// Never fails. O(1) expected.
     #[inline(always)]
     pub fn update<Q: KeyForm<K, H>, R, F: FnOnce(&K, &mut V) -> R>(
         &mut self,
@@ -48,11 +48,11 @@ impl<K: Eq + Drop, V: Drop, H: KeyHash<K>> HashCache<K, V, H> {
         outcome
     }
 
-    /// Returns a mutable reference to the value under a key, or under the keys that a form stands
-    /// for, and touches its pair as `get` does; `None` if the cache hasn't the key. When the borrow
-    /// ends, the key has the value last written, and each other key its earlier value.
+    /// Returns a mutable reference to the value under `key`, a key or a form of one, and touches
+    /// its pair as `get` does; `None` if the cache does not contain the key. When the borrow ends,
+    /// the key has the value last written; the other keys keep theirs.
     ///
-    /// Never fails. O(1) expected. Own.
+    /// Never fails. O(1) expected.
     #[inline(always)]
     pub fn get_mut<Q: KeyForm<K, H>>(&mut self, key: Q) -> Option<&mut V>
         ensures* writes_back { sem 𝓛
@@ -67,11 +67,11 @@ impl<K: Eq + Drop, V: Drop, H: KeyHash<K>> HashCache<K, V, H> {
             .touch_mut_by(hash, &mut FormProbe::<Q, H>::new(key))
     }
 
-    /// Returns a mutable reference to the value under a key, or under the keys that a form stands
-    /// for, and doesn't touch its pair; `None` if the cache hasn't the key. When the borrow ends,
-    /// the key has the value last written, and each other key its earlier value.
+    /// Returns a mutable reference to the value under `key`, a key or a form of one, without
+    /// touching its pair; `None` if absent. When the borrow ends, the key has the value last
+    /// written; the other keys keep theirs.
     ///
-    /// Never fails. O(1) expected. Own.
+    /// Never fails. O(1) expected.
     #[inline(always)]
     pub fn peek_mut<Q: KeyForm<K, H>>(&mut self, key: Q) -> Option<&mut V>
         ensures* writes_back { sem 𝓛
@@ -86,11 +86,11 @@ impl<K: Eq + Drop, V: Drop, H: KeyHash<K>> HashCache<K, V, H> {
             .get_mut_by(hash, &mut FormProbe::<Q, H>::new(key))
     }
 
-    /// Calls a function with each pair once, its value mutable, and drops each pair for which it
-    /// returns `false`; the others stay, with the values that it left and in their LRU order. None
-    /// is touched.
+    /// Calls a function once with each key and a mutable reference to its value, and drops each
+    /// pair for which it returns `false`; the others stay, with the values that it left and in
+    /// their LRU order. No pair is touched.
     ///
-    /// Never fails, and takes no memory. O(slots), and the function's calls. scc:
+    /// Never fails and allocates nothing. O(slots), plus the function's calls. scc:
     /// `HashCache::retain_sync`.
     #[inline(always)]
     pub fn retain<F: FnMut(&K, &mut V) -> bool>(&mut self, f: &mut F)
@@ -106,11 +106,11 @@ impl<K: Eq + Drop, V: Drop, H: KeyHash<K>> HashCache<K, V, H> {
         self.table.sound();
     }
 
-    /// Calls a function with each pair once, its value mutable. Each pair stays in its place, with
-    /// the value that the function left. None is touched.
+    /// Calls a function once with each key and a mutable reference to its value. Each pair stays in
+    /// its place, with the value that the function left. No pair is touched.
     ///
-    /// Never fails, and takes no memory. O(slots), and the function's calls. Own: std's loop over
-    /// `iter_mut`.
+    /// Never fails and allocates nothing. O(slots), plus the function's calls. Like a loop over
+    /// std's `iter_mut`.
     pub fn for_each_mut<F: FnMut(&K, &mut V)>(&mut self, f: &mut F)
         requires callable { F.IsAlwaysCallable f.old }
         ensures again { F.IsAlwaysCallable f.new }

@@ -3,8 +3,8 @@ use crate::comparing::are_equal;
 use crate::hash_cache::HashCache;
 use bucket_table::key_hash::KeyHash;
 
-/// As maps: `==` is whether each has the keys of the other, beside equal values. No pair is
-/// touched, and the LRU order doesn't count.
+/// Two caches are equal if each contains the keys of the other, with equal values, as with maps. No
+/// pair is touched, and the LRU order doesn't count.
 impl<K: Eq, V: PartialEq, H: KeyHash<K>> PartialEq for HashCache<K, V, H> {
     ghost use Rattle.std.specs.Cmp.{on_per};
     ghost use Rattle.collections.specs.Equality.{map_eq};

@@ -10,15 +10,15 @@ use bucket_slots::lru::DoublyLinkedList;
 use bucket_table::hash_table::TableDrain;
 use bucket_table::key_hash::KeyHash;
 
-/// An iterator over the pairs that are left of those that a cache had.
+/// A draining iterator over the pairs of a cache.
 pub type Drain<K, V> = TableDrain<K, V, DoublyLinkedList, CACHE>;
 
 impl<K: Eq, V, H: KeyHash<K>> HashCache<K, V, H> {
     /// Returns an iterator over all pairs by value, in the order of the view, which isn't the LRU
     /// order. The cache is empty at once and has no slots; the hasher and the capacities stay. If
-    /// the iterator is dropped half-way, the rest is dropped with it.
+    /// the iterator is dropped early, the rest is dropped with it.
     ///
-    /// Takes no memory, and never fails. O(1); all steps together O(slots). Own.
+    /// Allocates nothing and never fails. O(1); all steps together O(slots).
     pub fn drain(&mut self) -> Drain<K, V>
         ensures rest { result ≡ pairs_of self.old.arrays }
         ensures unique { IsUnique K.eq (map_of self.old) }

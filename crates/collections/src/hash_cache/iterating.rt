@@ -14,24 +14,24 @@ use bucket_table::hash_table::{PairsByUse, TablePairs};
 use bucket_table::key_hash::KeyHash;
 use std::iter::IntoIterator;
 
-/// The pairs of a cache that are left, each as `(&K, &V)`.
+/// An iterator over the pairs of a cache, each as `(&K, &V)`.
 pub type Iter<'a, K, V> = TablePairs<'a, K, V, DoublyLinkedList, CACHE>;
 
-/// The pairs of a cache that are left, by use within a bucket.
+/// An iterator over the pairs of a cache, bucket by bucket, in each by use.
 pub type IterByUse<'a, K, V> = PairsByUse<'a, K, V>;
 
-/// The keys of a cache that are left.
+/// An iterator over the keys of a cache.
 pub type Keys<'a, K, V> = TableKeys<'a, K, V, DoublyLinkedList, CACHE>;
 
-/// The values of a cache that are left.
+/// An iterator over the values of a cache.
 pub type Values<'a, K, V> = TableValues<'a, K, V, DoublyLinkedList, CACHE>;
 
 impl<K: Eq, V, H: KeyHash<K>> HashCache<K, V, H> {
-    /// Returns an iterator over the pairs, in the order of the view. That isn't the LRU order,
-    /// which `iter_by_use` follows. None is touched.
+    /// Returns an iterator over the pairs, in the order of the view, which isn't the LRU order (see
+    /// `iter_by_use`). No pair is touched.
     ///
-    /// Takes no memory. O(1); all steps together O(slots, and the square of the number of blocks of
-    /// each chain). Own.
+    /// Allocates nothing. O(1); all steps together O(slots), plus the square of the number of
+    /// blocks of each chain.
     pub fn iter(&self) -> Iter<'_, K, V>
         ensures rest { result ≡ pairs_of self.now.arrays }
         ensures unique { IsUnique K.eq (map_of self.now) }
@@ -41,11 +41,12 @@ impl<K: Eq, V, H: KeyHash<K>> HashCache<K, V, H> {
         self.table.pairs()
     }
 
-    /// Returns an iterator over the pairs, bucket by bucket. In each bucket the pairs of the LRU
-    /// order come first, the most recently used one before the others, then the rest of its own
-    /// slots, and then its overflow chain. None is touched.
+    /// Returns an iterator over the pairs, bucket by bucket. In each bucket the pairs in the LRU
+    /// order come first, the most recently used one at the front, then the rest of its own slots,
+    /// and then its overflow chain. No pair is touched.
     ///
-    /// Takes no memory. As `iter`. Own: what the crate `lru` calls `iter`, a bucket at a time.
+    /// Allocates nothing. The same cost as `iter`. Like `iter` of the crate `lru`, but one bucket
+    /// at a time.
     pub fn iter_by_use(&self) -> IterByUse<'_, K, V>
         ensures by_use { result ≡ arrays_by_use self.now.arrays }
         ensures each { IsPermutation (pairs_of self.now.arrays) result }
@@ -56,9 +57,9 @@ impl<K: Eq, V, H: KeyHash<K>> HashCache<K, V, H> {
         self.table.pairs_by_use()
     }
 
-    /// Returns an iterator over the keys, in the order of the view. None is touched.
+    /// Returns an iterator over the keys, in the order of the view. No pair is touched.
     ///
-    /// Takes no memory. As `iter`. Own.
+    /// Allocates nothing. The same cost as `iter`.
     pub fn keys(&self) -> Keys<'_, K, V>
         ensures rest { result ≡ keys_of (pairs_of self.now.arrays) }
         ensures unique { IsUnique K.eq (map_of self.now) }
@@ -72,7 +73,7 @@ impl<K: Eq, V, H: KeyHash<K>> HashCache<K, V, H> {
 
     /// Returns an iterator over the values, in the order of the view. No pair is touched.
     ///
-    /// Takes no memory. As `iter`. Own.
+    /// Allocates nothing. The same cost as `iter`.
     pub fn values(&self) -> Values<'_, K, V>
         ensures { result ≡ values_of (pairs_of self.now.arrays) }
     {

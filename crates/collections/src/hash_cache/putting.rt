@@ -34,17 +34,17 @@ impl<K: Eq + Drop, V: Drop, H: KeyHash<K>> HashCache<K, V, H> {
     ghost use Rattle.collections.specs.CacheUpserts.{GetsOrInserts, PutsVacant, UpsertsInOrder};
     ghost use Rattle.collections.specs.CacheUpserts.{UpsertsOrEvicts};
 
-    /// Inserts a pair whose key the cache hasn't, as `put` does, or replaces the value of the equal
-    /// key, which stays. Either way its pair is now the most recently used one of its bucket.
-    /// Returns the earlier value, or the evicted pair, if any. If the cache has an equal key, the
-    /// call never fails, and no pair is evicted.
+    /// Inserts a pair as `put` does if its key is absent; else replaces the value of the equal key,
+    /// which stays. Either way the pair is now the most recently used one of its bucket. Returns
+    /// the earlier value, or the evicted pair, if any. If the cache contains an equal key, the call
+    /// never fails, and evicts no pair.
     ///
     /// # Errors
     ///
-    /// Allocation failure, as in `put`: the cache has no equal key, the pair is returned, and none
-    /// is evicted.
+    /// Allocation failure, as in `put`: the cache contains no equal key, the pair is returned, and
+    /// none is evicted.
     ///
-    /// O(1) expected, plus any resize. Own: std's `HashMap::insert`, and `put` of other caches.
+    /// O(1) expected, plus any resize. Like std's `HashMap::insert`, and `put` of other caches.
     #[inline(always)]
     pub fn upsert(&mut self, key: K, value: V) -> Result<Upserted<K, V>, AllocFailed<(K, V)>>
         ensures map { UpsertsOrEvicts K.eq key value (map_of self.old) result (map_of self.new) }
@@ -72,16 +72,16 @@ impl<K: Eq + Drop, V: Drop, H: KeyHash<K>> HashCache<K, V, H> {
     }
 
     /// Touches the pair whose key is equal, as `get` does, and calls `reader` with its value. If
-    /// the cache hasn't the key, it makes a value, calls `reader` with that, and inserts it as
-    /// `put` does. Returns what `reader` returned, and the evicted pair, if any. If the cache has
-    /// the key, no value is made, the call never fails, and no pair is evicted.
+    /// the cache does not contain the key, it makes a value, calls `reader` with that, and inserts
+    /// it as `put` does. Returns what `reader` returned, and the evicted pair, if any. If the cache
+    /// contains the key, no value is made, the call never fails, and no pair is evicted.
     ///
     /// # Errors
     ///
-    /// Allocation failure, as in `put`: the cache has no equal key, the key and the value made are
-    /// returned, and none is evicted. The function's result is dropped.
+    /// Allocation failure, as in `put`: the cache contains no equal key, the key and the value made
+    /// are returned, and none is evicted. The function's result is dropped.
     ///
-    /// O(1) expected, plus any resize. Own.
+    /// O(1) expected, plus any resize.
     #[inline(always)]
     pub fn get_or_insert_with<R: Drop, M: FnOnce() -> V, F: FnOnce(&V) -> R>(
         &mut self,
@@ -116,7 +116,7 @@ impl<K: Eq + Drop, V: Drop, H: KeyHash<K>> HashCache<K, V, H> {
         }
     }
 
-    /// Inserts a pair with this hash, whose key a search hasn't found.
+    /// Inserts a pair whose key has this hash and wasn't found by a search.
     #[inline(always)]
     pub(super) fn put_vacant(
         &mut self,

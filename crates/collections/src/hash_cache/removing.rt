@@ -12,10 +12,9 @@ use crate::key_form::{KeyForm, asks};
 use bucket_table::key_hash::KeyHash;
 
 impl<K: Eq + Drop, V: Drop, H: KeyHash<K>> HashCache<K, V, H> {
-    /// Calls a function with the pair under a key, or under the keys that a form stands for, and
-    /// doesn't touch it. If it returns `true`, the pair is removed and returned. If it returns
-    /// `false`, or if the cache hasn't the key and the function isn't called, the result is `None`,
-    /// and nothing changes.
+    /// Calls a function with the pair under `key`, a key or a form of one, without touching it. If
+    /// it returns `true`, the pair is removed and returned. If it returns `false`, or if the key is
+    /// absent and the function isn't called, the result is `None`, and nothing changes.
     ///
     /// Never fails. O(1) expected, plus any resize. scc: `HashCache::remove_if_sync`, whose
     /// function may write the value.

@@ -9,8 +9,8 @@ use std::alloc::AllocError;
 
 impl<K: Eq + Drop, V: Drop, H: KeyHash<K>> HashCache<K, V, H> {
     /// Moves all pairs into a new array, and makes its size the minimum and the maximum, as
-    /// `with_size` does: the least power of two that is at least this number of slots and 64, or
-    /// 2^63. It is as if each pair were `put` into an empty cache of that size, those of a bucket
+    /// `with_size` does: the least power of two that is at least `slots` and 64, limited to 2^63.
+    /// The result is as if each pair were `put` into an empty cache of that size, those of a bucket
     /// in LRU order, the least recently used one first. A pair is evicted, and dropped, only when
     /// its new bucket has 32 pairs already, the least recently used one first. A pair outside the
     /// LRU order counts as less recently used than those of its bucket that are in it.

@@ -11,13 +11,13 @@ use bucket_table::key_hash::KeyHash;
 use std::alloc::{AllocError, Global};
 
 impl<K: Eq + Clone, V: Clone, H: KeyHash<K> + Clone> HashIndex<K, V, H> {
-    /// Returns another index with clones of the pairs and of the hasher, the same capacities, and
-    /// no tombstone, whose slots come from the allocator.
+    /// Returns another index with clones of the pairs and of the hasher, the same capacities and no
+    /// tombstones, whose slots are allocated from `alloc`.
     ///
     /// # Errors
     ///
     /// Allocation failure; or a key's clone isn't equal to the key, which no law of `Clone` rules
-    /// out. An empty index takes no memory but for its hasher's clone.
+    /// out. An empty index allocates nothing but its hasher's clone.
     ///
     /// O(slots) expected. scc: `HashIndex::clone`.
     pub fn try_clone(&self, alloc: Global) -> Result<Self, AllocError>
@@ -43,7 +43,7 @@ impl<K: Eq + Clone, V: Clone, H: KeyHash<K> + Clone> HashIndex<K, V, H> {
 }
 
 impl<K: Eq + Clone, V: Clone, H: KeyHash<K>> HashIndex<K, V, H> {
-    /// Sets the minimum to this number of slots, or to the maximum, and resizes nothing.
+    /// Sets the minimum to `slots`, or to the maximum if that is less, and resizes nothing.
     fn set_minimum(&mut self, slots: usize)
         ensures { self.new ≡ record self.old {
           arrays = with_minimum self.old.arrays (min slots self.old.arrays.maximum);
@@ -72,7 +72,7 @@ impl<K: Eq + Clone, V: Clone, H: KeyHash<K>> HashIndex<K, V, H> {
     }
 }
 
-/// As `try_clone`, with memory from the index's own allocator, so that a struct with an index can
+/// Like `try_clone`, with memory from the index's own allocator, so that a struct with an index can
 /// derive `Clone`.
 impl<K: Eq + Clone, V: Clone, H: KeyHash<K> + Clone> Clone for HashIndex<K, V, H> {
     ghost is_clone = { λ own copy. IsClone K.eq K.is_clone V.is_clone H.is_clone (map_of own)

@@ -11,20 +11,20 @@ use bucket_table::hash_table::TablePairs;
 use bucket_table::key_hash::KeyHash;
 use std::iter::IntoIterator;
 
-/// The pairs of an index that are left, each as `(&K, &V)`. scc: `hash_index::Iter`.
+/// An iterator over the pairs of an index, each as `(&K, &V)`. scc: `hash_index::Iter`.
 pub type Iter<'a, K, V> = TablePairs<'a, K, V, (), INDEX>;
 
-/// The keys of an index that are left.
+/// An iterator over the keys of an index.
 pub type Keys<'a, K, V> = TableKeys<'a, K, V, (), INDEX>;
 
-/// The values of an index that are left.
+/// An iterator over the values of an index.
 pub type Values<'a, K, V> = TableValues<'a, K, V, (), INDEX>;
 
 impl<K: Eq, V, H: KeyHash<K>> HashIndex<K, V, H> {
     /// Returns an iterator over the pairs, in the order of the view, without tombstones.
     ///
-    /// Takes no memory. O(1); all steps together O(slots, and the square of the number of blocks of
-    /// each chain). scc: `HashIndex::iter`.
+    /// Allocates nothing. O(1); all steps together O(slots), plus the square of the number of
+    /// blocks of each chain. scc: `HashIndex::iter`.
     pub fn iter(&self) -> Iter<'_, K, V>
         ensures rest { result ≡ pairs_of self.now.arrays }
         ensures unique { IsUnique K.eq (map_of self.now) }
@@ -36,7 +36,7 @@ impl<K: Eq, V, H: KeyHash<K>> HashIndex<K, V, H> {
 
     /// Returns an iterator over the keys, in the order of the view.
     ///
-    /// Takes no memory. As `iter`. Own.
+    /// Allocates nothing. The same cost as `iter`.
     pub fn keys(&self) -> Keys<'_, K, V>
         ensures rest { result ≡ keys_of (pairs_of self.now.arrays) }
         ensures unique { IsUnique K.eq (map_of self.now) }
@@ -50,7 +50,7 @@ impl<K: Eq, V, H: KeyHash<K>> HashIndex<K, V, H> {
 
     /// Returns an iterator over the values, in the order of the view.
     ///
-    /// Takes no memory. As `iter`. Own.
+    /// Allocates nothing. The same cost as `iter`.
     pub fn values(&self) -> Values<'_, K, V>
         ensures { result ≡ values_of (pairs_of self.now.arrays) }
     {

@@ -15,9 +15,9 @@ use crate::key_form::{KeyForm, asks};
 use bucket_table::key_hash::KeyHash;
 
 impl<K: Eq + Drop, V: Drop, H: KeyHash<K>> HashIndex<K, V, H> {
-    /// Calls a function with the pair under a key, or under the keys that a form stands for. If it
-    /// returns `true`, the pair is removed as by `remove`. Returns whether it was. If it returns
-    /// `false`, or if the index hasn't the key and the function isn't called, nothing changes.
+    /// Calls a function with the pair under `key`, a key or a form of one. If it returns `true`,
+    /// the pair is removed as by `remove`. Returns whether it was. If it returns `false`, or if the
+    /// key is absent and the function isn't called, nothing changes.
     ///
     /// Never fails. O(1) expected, plus any resize. scc: `HashIndex::remove_if_sync`.
     pub fn remove_if<Q: KeyForm<K, H>, F: FnOnce(&K, &V) -> bool>(

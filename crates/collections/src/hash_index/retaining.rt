@@ -14,10 +14,10 @@ use bucket_slots::bucket::INDEX;
 use bucket_table::key_hash::KeyHash;
 
 impl<K: Eq + Drop, V: Drop, H: KeyHash<K>> HashIndex<K, V, H> {
-    /// Calls a function with each pair once, and removes each pair for which it returns `false`. A
+    /// Calls a function once with each pair, and removes each pair for which it returns `false`. A
     /// removed pair leaves a tombstone, and earlier tombstones stay.
     ///
-    /// Never fails, and takes no memory. O(slots), and the function's calls. scc:
+    /// Never fails and allocates nothing. O(slots), plus the function's calls. scc:
     /// `HashIndex::retain_sync`.
     pub fn retain<F: FnMut(&K, &V) -> bool>(&mut self, f: &mut F)
         requires callable { F.IsAlwaysCallable f.old }
@@ -38,7 +38,7 @@ impl<K: Eq + Drop, V: Drop, H: KeyHash<K>> HashIndex<K, V, H> {
         self.retain_mut(&mut keep);
     }
 
-    /// As `retain`, with a function that may write the values.
+    /// Like `retain`, with a function that may write the values.
     fn retain_mut<F: FnMut(&K, &mut V) -> bool>(&mut self, f: &mut F)
         requires callable { F.IsAlwaysCallable f.old }
         ensures again { F.IsAlwaysCallable f.new }

@@ -9,12 +9,12 @@ use std::alloc::{AllocError, Global};
 
 impl<K: Eq + Clone, V: Clone, H: KeyHash<K> + Clone> HashMap<K, V, H> {
     /// Returns another map with clones of the pairs and of the hasher, and the same capacities,
-    /// whose slots come from the allocator.
+    /// whose slots are allocated from `alloc`.
     ///
     /// # Errors
     ///
     /// Allocation failure; or a key's clone isn't equal to the key, which no law of `Clone` rules
-    /// out. An empty map takes no memory but for its hasher's clone.
+    /// out. An empty map allocates nothing but its hasher's clone.
     ///
     /// O(slots) expected. scc: `HashMap::clone`.
     pub fn try_clone(&self, alloc: Global) -> Result<Self, AllocError>
@@ -53,8 +53,8 @@ impl<K: Eq + Clone, V: Clone, H: KeyHash<K>> HashMap<K, V, H> {
     }
 }
 
-/// As `try_clone`, with memory from the map's own allocator, so that a struct with a map can derive
-/// `Clone`.
+/// Like `try_clone`, with memory from the map's own allocator, so that a struct with a map can
+/// derive `Clone`.
 impl<K: Eq + Clone, V: Clone, H: KeyHash<K> + Clone> Clone for HashMap<K, V, H> {
     ghost is_clone = { λ own copy. IsClone K.eq K.is_clone V.is_clone H.is_clone own copy };
 

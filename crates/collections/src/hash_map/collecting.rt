@@ -8,17 +8,17 @@ use std::alloc::{AllocError, AllocFailed};
 use std::iter::{Extend, IntoIterator};
 
 impl<K: Eq + Drop, V: Drop, H: KeyHash<K>> HashMap<K, V, H> {
-    /// Upserts the pairs of an iterator, one after the other: for a key that the map has, the value
-    /// is replaced and the earlier one dropped.
+    /// Upserts the pairs of an iterator, one after the other: if the map contains a pair's key, its
+    /// value is replaced, and the earlier one dropped.
     ///
     /// # Errors
     ///
     /// Allocation failure: the pair that wasn't inserted is returned, those before it are in the
-    /// map, and those after it are still in the iterator. The map has no key equal to its key.
+    /// map, and those after it are still in the iterator. The map contains no key equal to its key.
     ///
-    /// It makes no room first, so each insertion moves no more than one does alone.
+    /// It reserves no room first, so each insertion moves no more pairs than a single one does.
     ///
-    /// O(pairs) expected, plus any resizes. Own: std's `HashMap::extend`, and nothing is lost.
+    /// O(pairs) expected, plus any resizes. Like std's `HashMap::extend`, but nothing is lost.
     pub fn try_extend<I: Iterator<Item = (K, V)>>(
         &mut self,
         pairs: &mut I,
@@ -40,9 +40,9 @@ impl<K: Eq + Drop, V: Drop, H: KeyHash<K>> HashMap<K, V, H> {
     }
 }
 
-/// Makes room for the pairs that an iterator has at least, if it can be allocated, and inserts the
-/// pairs, as `try_extend` does. A map that has pairs makes room for half of them, rounded up, since
-/// it may have their keys already.
+/// Reserves room for as many pairs as the iterator has at least, if that can be allocated, and
+/// inserts the pairs, as `try_extend` does. A map that isn't empty reserves room for half of them,
+/// rounded up, since it may contain their keys already.
 ///
 /// If allocation fails, the pair that wasn't inserted is dropped, and so are those after it;
 /// `try_extend` loses none.
@@ -59,7 +59,8 @@ impl<K: Eq + Drop, V: Drop, H: KeyHash<K>> Extend<(K, V)> for HashMap<K, V, H> {
     }
 }
 
-/// Inserts copies of the pairs that an iterator borrows, as pairs by value, and makes room first.
+/// Inserts copies of the pairs that an iterator borrows, like pairs by value, and reserves room
+/// first.
 impl<'a, K: Eq + Copy + 'a, V: Copy + 'a, H: KeyHash<K>> Extend<(&'a K, &'a V)>
     for HashMap<K, V, H> {
     ghost extend_gives = { λ old pairs new. PutsAll K.eq old (copied_pairs pairs) new };

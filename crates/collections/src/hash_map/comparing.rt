@@ -3,7 +3,8 @@ use crate::comparing::are_equal;
 use crate::hash_map::HashMap;
 use bucket_table::key_hash::KeyHash;
 
-/// As std's maps: `==` is whether each has the keys of the other, beside equal values.
+/// As with std's maps, two maps are equal if each contains the keys of the other, with equal
+/// values.
 impl<K: Eq, V: PartialEq, H: KeyHash<K>> PartialEq for HashMap<K, V, H> {
     ghost use Rattle.collections.specs.Equality.{map_eq};
     ghost use Rattle.collections.specs.EqualityLaws.{map_eq_per};

@@ -9,9 +9,9 @@ use crate::hash_map::HashMap;
 use bucket_table::key_hash::KeyHash;
 use std::alloc::{AllocError, Global};
 
-/// Where the pairs of a copy are put.
+/// A target that takes the pairs of a copy.
 trait TakesPairs<K, V> {
-    /// What it is once it took a pair.
+    /// The target after it has taken a pair.
     ghost Takes: { Self → K → V → Self → Type 0 };
 
     /// Takes a pair.
@@ -36,14 +36,13 @@ impl<K: Eq + Copy, V: Copy, H: KeyHash<K> + Copy> TakesPairs<K, V> for Option<Ha
 }
 
 impl<K: Eq + Copy, V: Copy, H: KeyHash<K> + Copy> HashMap<K, V, H> {
-    /// Returns another map with the same pairs, hasher and capacities, whose memory comes from the
-    /// allocator.
+    /// Returns a copy with the same pairs, hasher and capacities, allocated from `alloc`.
     ///
     /// # Errors
     ///
-    /// Allocation failure. An empty map takes no memory.
+    /// Allocation failure. An empty map allocates nothing.
     ///
-    /// O(slots) expected. Own: `try_clone` for `Copy` pairs, with a stronger contract.
+    /// O(slots) expected. This is `try_clone` for `Copy` pairs, with a stronger contract.
     pub fn try_copy(&self, alloc: Global) -> Result<Self, AllocError>
         ensures copy { IfOk result (λ copy. IsCopy K.eq self.now copy) }
         ensures succeeds { IsEmpty self.now → IsOk result }
@@ -60,7 +59,7 @@ impl<K: Eq + Copy, V: Copy, H: KeyHash<K> + Copy> HashMap<K, V, H> {
         }
     }
 
-    /// Passes each pair on once, in the order of the view.
+    /// Passes each pair to the target once, in the order of the view.
     fn pour<M: TakesPairs<K, V>>(&self, into: &mut M)
         ensures { FoldsTo (λ before pair after. M.Takes before pair.0 pair.1 after) into.old
             self.now.entries into.new }

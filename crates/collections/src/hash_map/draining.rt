@@ -10,24 +10,24 @@ use bucket_table::hash_table::TableDrain;
 use bucket_table::key_hash::KeyHash;
 use std::iter::IntoIterator;
 
-/// An iterator over the pairs that are left of those that a map had. std: `hash_map::Drain`.
+/// A draining iterator over the pairs of a map. std: `hash_map::Drain`.
 pub type Drain<K, V> = TableDrain<K, V, (), MAP>;
 
-/// The pairs of a map by value that are left. std: `hash_map::IntoIter`.
+/// An iterator over the pairs of a map by value. std: `hash_map::IntoIter`.
 pub type IntoIter<K, V> = Drain<K, V>;
 
-/// The keys of a map by value that are left. std: `hash_map::IntoKeys`.
+/// An iterator over the keys of a map by value. std: `hash_map::IntoKeys`.
 pub type IntoKeys<K, V> = DrainKeys<K, V, (), MAP>;
 
-/// The values of a map by value that are left. std: `hash_map::IntoValues`.
+/// An iterator over the values of a map by value. std: `hash_map::IntoValues`.
 pub type IntoValues<K, V> = DrainValues<K, V, (), MAP>;
 
 impl<K: Eq, V, H: KeyHash<K>> HashMap<K, V, H> {
     /// Returns an iterator over all pairs by value, in the order of the view. The map is empty at
-    /// once and has no slots; the hasher and the capacities stay. If the iterator is dropped
-    /// half-way, the rest is dropped with it.
+    /// once and has no slots; the hasher and the capacities stay. If the iterator is dropped early,
+    /// the rest is dropped with it.
     ///
-    /// Takes no memory, and never fails. O(1); all steps together O(slots). std: `HashMap::drain`,
+    /// Allocates nothing and never fails. O(1); all steps together O(slots). std: `HashMap::drain`,
     /// which borrows the map and keeps its memory.
     pub fn drain(&mut self) -> Drain<K, V>
         ensures rest { result ≡ self.old.entries }
@@ -44,7 +44,7 @@ impl<K: Eq, V, H: KeyHash<K>> HashMap<K, V, H> {
 impl<K: Eq + Drop, V: Drop, H: KeyHash<K> + Drop> HashMap<K, V, H> {
     /// Returns an iterator over the keys by value, in the order of the view, and drops the values.
     ///
-    /// Takes no memory. As `drain`. std: `HashMap::into_keys`.
+    /// Allocates nothing. The same cost as `drain`. std: `HashMap::into_keys`.
     pub fn into_keys(mut self) -> IntoKeys<K, V>
         ensures rest { result ≡ keys_of self.entries }
         ensures unique { IsUnique K.eq self }
@@ -56,7 +56,7 @@ impl<K: Eq + Drop, V: Drop, H: KeyHash<K> + Drop> HashMap<K, V, H> {
 
     /// Returns an iterator over the values by value, in the order of the view, and drops the keys.
     ///
-    /// Takes no memory. As `drain`. std: `HashMap::into_values`.
+    /// Allocates nothing. The same cost as `drain`. std: `HashMap::into_values`.
     pub fn into_values(mut self) -> IntoValues<K, V>
         ensures { result ≡ values_of self.entries }
     {
@@ -66,7 +66,7 @@ impl<K: Eq + Drop, V: Drop, H: KeyHash<K> + Drop> HashMap<K, V, H> {
     }
 }
 
-/// Takes no memory. As `drain`.
+/// Allocates nothing. The same cost as `drain`.
 impl<K: Eq + Drop, V: Drop, H: KeyHash<K> + Drop> IntoIterator for HashMap<K, V, H> {
     type Item = (K, V);
 

@@ -1,7 +1,7 @@
-//! A key's place in a map, as std's `Entry`: occupied if the map has the key, and else vacant.
+//! A key's place in a map, like std's `Entry`: occupied if the map contains the key, else vacant.
 //!
-//! An entry borrows the map, holds the key that was asked for and its hash, and moves nothing until
-//! it is written. The key is hashed once.
+//! An entry borrows the map, and holds the requested key and its hash. It moves no pairs until it
+//! is written. The key is hashed once.
 ghost use Rattle.std.specs.Prelude.{◌≡◌, None, IsSome};
 ghost use Rattle.collections.specs.Maps.{get};
 
@@ -19,13 +19,13 @@ pub use by_form::{EntryRef, OccupiedEntryRef, VacantEntryRef};
 /// A key's place in a map. std: `hash_map::Entry`.
 #[derive(Drop)]
 pub enum Entry<'a, K: Eq, V, H: KeyHash<K> = DefaultHash> {
-    /// The map has the key.
+    /// The map contains the key.
     Occupied(OccupiedEntry<'a, K, V, H>),
-    /// The map hasn't the key.
+    /// The map does not contain the key.
     Vacant(VacantEntry<'a, K, V, H>),
 }
 
-/// The place of a key that the map has. std: `hash_map::OccupiedEntry`.
+/// The place of a key that the map contains. std: `hash_map::OccupiedEntry`.
 #[derive(Drop)]
 pub struct OccupiedEntry<'a, K: Eq, V, H: KeyHash<K> = DefaultHash> {
     map: &'a mut HashMap<K, V, H>,
@@ -35,7 +35,7 @@ pub struct OccupiedEntry<'a, K: Eq, V, H: KeyHash<K> = DefaultHash> {
     ghost there: { IsSome (get K.eq map.now key) },
 }
 
-/// The place of a key that the map hasn't. std: `hash_map::VacantEntry`.
+/// The place of a key that the map does not contain. std: `hash_map::VacantEntry`.
 #[derive(Drop)]
 pub struct VacantEntry<'a, K: Eq, V, H: KeyHash<K> = DefaultHash> {
     map: &'a mut HashMap<K, V, H>,

@@ -25,14 +25,14 @@ impl<K: Eq, V, H: KeyHash<K>> HashMap<K, V, H> {
 
     /// Returns an iterator that removes the pairs for which a function returns `true`, in the order
     /// of the view. Each step calls the function with the next pairs, one by one and their values
-    /// mutable, until it returns `true`; that pair is removed and returned. Each pair is tried
+    /// mutable, until it returns `true`; that pair is removed and returned. Each pair is tested
     /// once. The others stay, with the values that the function left. If the iterator is dropped
-    /// half-way, the pairs that it hasn't reached stay as they were.
+    /// early, the pairs that it hasn't reached stay as they were.
     ///
     /// The slots stay, the old ones too. The iterator holds the map's arrays, and puts them back
     /// when it is dropped. A leaked iterator keeps them.
     ///
-    /// Never fails, and takes no memory. O(1); all steps and its drop together O(slots), and the
+    /// Never fails and allocates nothing. O(1); all steps and its drop together O(slots), plus the
     /// function's calls. std: `HashMap::extract_if`.
     pub fn extract_if<F: FnMut(&K, &mut V) -> bool>(&mut self, test: F) -> ExtractIf<'_, K, V, H, F>
         requires callable { F.IsAlwaysCallable test }
@@ -92,7 +92,7 @@ impl<'a, K: Eq + Drop, V: Drop, H: KeyHash<K>, F: FnMut(&K, &mut V) -> bool> Ite
         self.taken.extract_next(&mut self.test)
     }
 
-    /// From 0 to the number of pairs that weren't tried yet. O(1).
+    /// From 0 to the number of pairs that weren't tested yet. O(1).
     fn size_hint(&self) -> (usize, Option<usize>) {
         (0, self.taken.most_left())
     }

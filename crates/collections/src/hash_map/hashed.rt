@@ -1,4 +1,4 @@
-//! The calls with a hash that is known, for an entry, which hashes its key once.
+//! Calls with a known hash, for an entry, which hashes its key once.
 ghost use Rattle.std.specs.Prelude.{◌≡◌, IsSome, Some, is_some};
 ghost use Rattle.std.specs.Borrow.{sem};
 ghost use Rattle.std.specs.Option.{option_copied, option_copied_mut};
@@ -16,7 +16,7 @@ impl<K: Eq, V, H: KeyHash<K>> HashMap<K, V, H> {
     /// Returns the value under the keys that a form stands for, which have this hash; `None` if the
     /// map has none of them.
     ///
-    /// Moves nothing, and takes no memory. O(1) expected.
+    /// Moves no pairs and allocates nothing. O(1) expected.
     #[inline(always)]
     pub(super) fn get_hashed<Q: KeyForm<K, H>>(&self, hash: u64, key: Q) -> Option<&V>
         requires hashed { HaveHash (Q.stands_for key) (H.hash_of self.now.hasher) hash }
@@ -51,7 +51,7 @@ impl<K: Eq + Drop, V: Drop, H: KeyHash<K>> HashMap<K, V, H> {
     /// Returns a mutable reference to the value under the keys that a form stands for, which have
     /// this hash. The map has one of them.
     ///
-    /// Moves nothing, and takes no memory. O(1) expected.
+    /// Moves no pairs and allocates nothing. O(1) expected.
     #[inline(always)]
     pub(super) fn value_mut_hashed<Q: KeyForm<K, H>>(&mut self, hash: u64, key: Q) -> &mut V
         requires hashed { HaveHash (Q.stands_for key) (H.hash_of self.old.hasher) hash }

@@ -7,9 +7,9 @@ use crate::key_form::KeyForm;
 use bucket_table::key_hash::KeyHash;
 use std::ops::Index;
 
-/// The value under a key, or under the keys that a form stands for, one of which the map has.
+/// The value under `key`, a key or a form of one, which the map has to contain.
 ///
-/// Moves nothing. O(1) expected. std: `HashMap::index`.
+/// Moves no pairs. O(1) expected. std: `HashMap::index`.
 impl<K: Eq, V, H: KeyHash<K>, Q: KeyForm<K, H>> Index<Q> for HashMap<K, V, H> {
     type Output = V;
 

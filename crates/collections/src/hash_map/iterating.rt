@@ -1,5 +1,4 @@
-//! The iterators over a map's pairs, its keys and its values, and the calls of a function with each
-//! pair.
+//! Iterators over a map's pairs, its keys and its values, and calls of a function with each pair.
 ghost use Rattle.std.specs.Prelude.{◌≡◌, ◌<◌, ◌↔◌, ◌^◌, IsTrue, length};
 ghost use Rattle.std.specs.Map.{keys_of, values_of};
 ghost use Rattle.bucket_slots.specs.Walking.{CallsEach};
@@ -12,20 +11,20 @@ use bucket_table::hash_table::TablePairs;
 use bucket_table::key_hash::KeyHash;
 use std::iter::IntoIterator;
 
-/// The pairs of a map that are left, each as `(&K, &V)`. std: `hash_map::Iter`.
+/// An iterator over the pairs of a map, each as `(&K, &V)`. std: `hash_map::Iter`.
 pub type Iter<'a, K, V> = TablePairs<'a, K, V, (), MAP>;
 
-/// The keys of a map that are left. std: `hash_map::Keys`.
+/// An iterator over the keys of a map. std: `hash_map::Keys`.
 pub type Keys<'a, K, V> = TableKeys<'a, K, V, (), MAP>;
 
-/// The values of a map that are left. std: `hash_map::Values`.
+/// An iterator over the values of a map. std: `hash_map::Values`.
 pub type Values<'a, K, V> = TableValues<'a, K, V, (), MAP>;
 
 impl<K: Eq, V, H: KeyHash<K>> HashMap<K, V, H> {
     /// Returns an iterator over the pairs, in the order of the view.
     ///
-    /// Takes no memory. O(1); all steps together O(slots, and the square of the number of blocks of
-    /// each chain). std: `HashMap::iter`.
+    /// Allocates nothing. O(1); all steps together O(slots), plus the square of the number of
+    /// blocks of each chain. std: `HashMap::iter`.
     pub fn iter(&self) -> Iter<'_, K, V>
         ensures rest { result ≡ self.now.entries }
         ensures unique { IsUnique K.eq self.now }
@@ -37,7 +36,7 @@ impl<K: Eq, V, H: KeyHash<K>> HashMap<K, V, H> {
 
     /// Returns an iterator over the keys, in the order of the view.
     ///
-    /// Takes no memory. As `iter`. std: `HashMap::keys`.
+    /// Allocates nothing. The same cost as `iter`. std: `HashMap::keys`.
     pub fn keys(&self) -> Keys<'_, K, V>
         ensures rest { result ≡ keys_of self.now.entries }
         ensures unique { IsUnique K.eq self.now }
@@ -51,7 +50,7 @@ impl<K: Eq, V, H: KeyHash<K>> HashMap<K, V, H> {
 
     /// Returns an iterator over the values, in the order of the view.
     ///
-    /// Takes no memory. As `iter`. std: `HashMap::values`.
+    /// Allocates nothing. The same cost as `iter`. std: `HashMap::values`.
     pub fn values(&self) -> Values<'_, K, V>
         ensures { result ≡ values_of self.now.entries }
     {
@@ -61,9 +60,9 @@ impl<K: Eq, V, H: KeyHash<K>> HashMap<K, V, H> {
         }
     }
 
-    /// Calls a function with each pair once, in the order of the view.
+    /// Calls a function once with each pair, in the order of the view.
     ///
-    /// O(slots), and the function's calls. Own: std's loop over `iter`.
+    /// O(slots), plus the function's calls. Like a loop over std's `iter`.
     #[inline(always)]
     pub fn for_each<F: FnMut(&K, &V)>(&self, mut f: F)
         requires callable { F.IsAlwaysCallable f }
@@ -73,9 +72,9 @@ impl<K: Eq, V, H: KeyHash<K>> HashMap<K, V, H> {
         self.for_each_ref(&mut f);
     }
 
-    /// As `for_each`, with a borrowed function, whose state after the call the contract gives.
+    /// Like `for_each`, but borrows the function; the contract gives its state after the call.
     ///
-    /// O(slots), and the function's calls. scc: `HashMap::iter_sync`.
+    /// O(slots), plus the function's calls. scc: `HashMap::iter_sync`.
     #[inline(always)]
     pub fn for_each_ref<F: FnMut(&K, &V)>(&self, f: &mut F)
         requires callable { F.IsAlwaysCallable f.old }
@@ -88,10 +87,10 @@ impl<K: Eq, V, H: KeyHash<K>> HashMap<K, V, H> {
     }
 
     /// Calls a function with each pair of one bucket, in the order of the view, and returns whether
-    /// there is such a bucket. The buckets of the slots count first, then those of the old slots:
-    /// together they have the pairs of `for_each`, until a call changes the map.
+    /// there is such a bucket. Buckets are numbered from 0: first those of the slots, then those of
+    /// the old slots. Together they have the pairs of `for_each`, until a call changes the map.
     ///
-    /// Moves nothing, and takes no memory. O(1) expected, and the function's calls. Own.
+    /// Moves no pairs and allocates nothing. O(1) expected, plus the function's calls.
     #[inline(always)]
     pub fn for_each_in<F: FnMut(&K, &V)>(&self, bucket: usize, f: &mut F) -> bool
         requires callable { F.IsAlwaysCallable f.old }

@@ -13,9 +13,9 @@ use bucket_table::key_hash::KeyHash;
 impl<K: Eq + Drop, V: Drop, H: KeyHash<K>> HashMap<K, V, H> {
     ghost use Rattle.collections.specs.Loans.{LendsValue};
 
-    /// Returns a mutable reference to the value under a key, or under the keys that a form stands
-    /// for; `None` if the map hasn't the key. When the borrow ends, the key has the value last
-    /// written, and each other key its earlier value.
+    /// Returns a mutable reference to the value under `key`, a key or a form of one; `None` if
+    /// absent. When the borrow ends, the key has the value last written; the other keys keep
+    /// theirs.
     ///
     /// Never fails. O(1) expected. scc: `HashMap::get_sync`.
     #[inline(always)]
@@ -29,11 +29,11 @@ impl<K: Eq + Drop, V: Drop, H: KeyHash<K>> HashMap<K, V, H> {
         self.get_mut_hashed(hash, key)
     }
 
-    /// Calls a function with each pair once, its value mutable, in the order of the view. Each pair
-    /// stays, with the value that the function left.
+    /// Calls a function once with each key and a mutable reference to its value, in the order of
+    /// the view. Each pair stays, with the value that the function left.
     ///
-    /// Never fails, and takes no memory. O(slots), and the function's calls. Own: std's loop over
-    /// `iter_mut`.
+    /// Never fails and allocates nothing. O(slots), plus the function's calls. Like a loop over
+    /// std's `iter_mut`.
     pub fn for_each_mut<F: FnMut(&K, &mut V)>(&mut self, mut f: F)
         requires callable { F.IsAlwaysCallable f }
         ensures written { (last : F) × Retains K.eq (λ state own before answer after next.
@@ -42,10 +42,10 @@ impl<K: Eq + Drop, V: Drop, H: KeyHash<K>> HashMap<K, V, H> {
         self.for_each_mut_ref(&mut f);
     }
 
-    /// As `for_each_mut`, with a borrowed function, whose state after the call the contract gives.
+    /// Like `for_each_mut`, but borrows the function; the contract gives its state after the call.
     ///
-    /// Never fails, and takes no memory. O(slots), and the function's calls. Own: std's loop over
-    /// `iter_mut`.
+    /// Never fails and allocates nothing. O(slots), plus the function's calls. Like a loop over
+    /// std's `iter_mut`.
     pub fn for_each_mut_ref<F: FnMut(&K, &mut V)>(&mut self, f: &mut F)
         requires callable { F.IsAlwaysCallable f.old }
         ensures again { F.IsAlwaysCallable f.new }

@@ -10,10 +10,10 @@ use crate::key_form::{KeyForm, pair_by};
 use bucket_table::key_hash::KeyHash;
 
 impl<K: Eq, V, H: KeyHash<K>> HashMap<K, V, H> {
-    /// Returns the pair under a key, or under the keys that a form stands for: the map's own key,
-    /// and its value; `None` if the map hasn't the key.
+    /// Returns the pair under `key`, a key or a form of one: the map's own key and its value;
+    /// `None` if absent.
     ///
-    /// Moves nothing, and takes no memory. O(1) expected. std: `HashMap::get_key_value`.
+    /// Moves no pairs and allocates nothing. O(1) expected. std: `HashMap::get_key_value`.
     #[inline(always)]
     pub fn get_key_value<Q: KeyForm<K, H>>(&self, key: Q) -> Option<(&K, &V)>
         ensures key { option_map (λ pair. pair.0.now) result ≡ key_by (Q.stands_for key) self.now }

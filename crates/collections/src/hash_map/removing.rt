@@ -10,10 +10,9 @@ use crate::key_form::{KeyForm, asks};
 use bucket_table::key_hash::KeyHash;
 
 impl<K: Eq + Drop, V: Drop, H: KeyHash<K>> HashMap<K, V, H> {
-    /// Calls a function with the pair under a key, or under the keys that a form stands for. If it
-    /// returns `true`, the pair is removed and returned. If it returns `false`, or if the map
-    /// hasn't the key and the function isn't called, the result is `None`, and the map is
-    /// unchanged.
+    /// Calls a function with the pair under `key`, a key or a form of one. If it returns `true`,
+    /// the pair is removed and returned. If it returns `false`, or if the key is absent and the
+    /// function isn't called, the result is `None`, and the map is unchanged.
     ///
     /// Never fails. O(1) expected, plus any resize. scc: `HashMap::remove_if_sync`, whose function
     /// may write the value.

@@ -6,8 +6,8 @@ use crate::hash_map::HashMap;
 use bucket_table::key_hash::KeyHash;
 
 impl<K: Eq + Drop, H: KeyHash<K>> HashMap<K, (), H> {
-    /// Puts a key in the place of the equal one, which it returns. If there is none, it returns the
-    /// key as an error, and nothing changes.
+    /// Replaces the key that is equal to `key`, and returns it. If there is none, the call returns
+    /// `key` as an error, and nothing changes.
     ///
     /// Never fails. O(1) expected.
     pub(crate) fn swap_key(&mut self, key: K) -> Result<K, K>

@@ -1,14 +1,14 @@
-//! The calls that drop the pairs of a map for which a function returns `false`.
+//! Calls that drop the pairs of a map for which a function returns `false`.
 ghost use Rattle.collections.specs.Changes.{Retains};
 
 use crate::hash_map::HashMap;
 use bucket_table::key_hash::KeyHash;
 
 impl<K: Eq + Drop, V: Drop, H: KeyHash<K>> HashMap<K, V, H> {
-    /// Calls a function with each pair once, its value mutable, and drops each pair for which it
-    /// returns `false`; the others stay, with the values that it left.
+    /// Calls a function once with each key and a mutable reference to its value, and drops each
+    /// pair for which it returns `false`; the others stay, with the values that it left.
     ///
-    /// Never fails, and takes no memory. O(slots), and the function's calls. std:
+    /// Never fails and allocates nothing. O(slots), plus the function's calls. std:
     /// `HashMap::retain`.
     #[inline(always)]
     pub fn retain<F: FnMut(&K, &mut V) -> bool>(&mut self, mut f: F)
@@ -20,9 +20,9 @@ impl<K: Eq + Drop, V: Drop, H: KeyHash<K>> HashMap<K, V, H> {
         self.retain_ref(&mut f);
     }
 
-    /// As `retain`, with a borrowed function, whose state after the call the contract gives.
+    /// Like `retain`, but borrows the function; the contract gives its state after the call.
     ///
-    /// Never fails, and takes no memory. O(slots), and the function's calls. scc:
+    /// Never fails and allocates nothing. O(slots), plus the function's calls. scc:
     /// `HashMap::retain_sync`.
     #[inline(always)]
     pub fn retain_ref<F: FnMut(&K, &mut V) -> bool>(&mut self, f: &mut F)

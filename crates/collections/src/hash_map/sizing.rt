@@ -22,11 +22,11 @@ use std::hash::Hash;
 impl<K: Eq, V, H: KeyHash<K>> HashMap<K, V, H> {
     ghost use Rattle.collections.specs.Room.{MapFits};
 
-    /// Returns an empty map, whose first insertion makes room for this number of pairs. Takes no
-    /// memory. The minimum is the least number of slots of which they take no more than 13 of 16:
-    /// 64 for no pair, and 2^63, which no array has, where they are too many.
+    /// Returns an empty map whose first insertion allocates room for `pairs` pairs. Allocates
+    /// nothing. The minimum is the fewest slots that the pairs fill to at most 13/16: 64 for no
+    /// pairs, and 2^63, which no array has, if they are too many.
     ///
-    /// O(1). Own: std's `with_capacity_and_hasher`, which takes memory.
+    /// O(1). Like std's `with_capacity_and_hasher`, which allocates.
     pub fn with_capacity_and_hasher(alloc: Global, pairs: usize, hasher: H) -> Self
         requires { MapFits K.row V.row H.row K.PartialEq H.KeyHash }
         ensures empty { IsEmpty result }
@@ -39,8 +39,8 @@ impl<K: Eq, V, H: KeyHash<K>> HashMap<K, V, H> {
         Self::with_minimum(alloc, hasher, minimum_for(pairs))
     }
 
-    /// Returns an empty map whose minimum is this number of slots, or 2^63. Takes no memory: the
-    /// first insertion makes an array.
+    /// Returns an empty map whose minimum is `slots`, limited to 2^63. Allocates nothing: the first
+    /// insertion allocates an array.
     ///
     /// O(1). scc: `HashMap::with_capacity_and_hasher`.
     pub fn with_minimum(alloc: Global, hasher: H, slots: usize) -> Self
@@ -61,10 +61,10 @@ impl<K: Eq, V, H: KeyHash<K>> HashMap<K, V, H> {
 }
 
 impl<K: Eq + Hash, V> HashMap<K, V, DefaultHash> {
-    /// Returns an empty map that hashes by std's default, and whose first insertion makes room for
-    /// this number of pairs, as `with_capacity_and_hasher` does. Takes no memory.
+    /// Returns an empty map that uses std's default hasher, and whose first insertion allocates
+    /// room for `pairs` pairs, as `with_capacity_and_hasher` does. Allocates nothing.
     ///
-    /// O(1). Own: std's `with_capacity`, which takes memory.
+    /// O(1). Like std's `with_capacity`, which allocates.
     pub fn with_capacity(alloc: Global, pairs: usize) -> Self
         ensures empty { IsEmpty result }
         ensures minimum { IsMinimumFor pairs result.minimum }
@@ -79,8 +79,9 @@ impl<K: Eq + Hash, V> HashMap<K, V, DefaultHash> {
 impl<K: Eq + Drop, V: Drop, H: KeyHash<K>> HashMap<K, V, H> {
     ghost use Rattle.collections.specs.Room.{MapFits};
 
-    /// Raises the minimum, and returns by how much: by `additional`, or by 0 if it would pass the
-    /// maximum. The pairs stay. No clause says that slots are allocated.
+    /// Raises the minimum number of slots by `additional`, or by 0 if it would exceed the maximum,
+    /// and returns by how much. The pairs stay. The contract doesn't promise that slots are
+    /// allocated.
     ///
     /// Never fails. O(slots). scc: `HashMap::reserve`.
     pub fn raise_minimum(&mut self, additional: usize) -> usize
@@ -93,9 +94,9 @@ impl<K: Eq + Drop, V: Drop, H: KeyHash<K>> HashMap<K, V, H> {
         raised
     }
 
-    /// Returns an empty map whose minimum is this number of slots, or 2^63, and that has room for
-    /// so many pairs if that can be allocated. Pairs that come in the order of another map's slots
-    /// would otherwise all go to the first buckets.
+    /// Returns an empty map whose minimum is `slots`, limited to 2^63, and that has room for
+    /// `pairs` pairs if that can be allocated. Without that room, pairs that come in the order of
+    /// another map's slots would all go to the first buckets.
     pub(super) fn with_room(alloc: Global, hasher: H, slots: usize, pairs: usize) -> Self
         requires { MapFits K.row V.row H.row K.PartialEq H.KeyHash }
         ensures empty { IsEmpty result }
@@ -108,16 +109,16 @@ impl<K: Eq + Drop, V: Drop, H: KeyHash<K>> HashMap<K, V, H> {
         made
     }
 
-    /// Makes room for `additional` pairs: all pairs then stand in one array, and with the
-    /// additional ones they take no more than 13 of 16 slots. If that is so already, nothing
-    /// changes. The minimum stays, and so do the pairs.
+    /// Makes room for `additional` pairs: afterwards all pairs are in one array, and together with
+    /// the additional ones they fill at most 13/16 of its slots. If that holds already, nothing
+    /// changes. The minimum and the pairs stay.
     ///
     /// # Errors
     ///
     /// Allocation failure, or more pairs than any array can take: the map keeps all pairs. In the
     /// second case nothing changes.
     ///
-    /// O(slots). Own: std's `try_reserve`.
+    /// O(slots). Like std's `try_reserve`.
     pub fn try_reserve(&mut self, additional: usize) -> Result<(), AllocError>
         ensures { MakesRoom K.eq additional self.old result self.new }
     {
@@ -135,8 +136,8 @@ impl<K: Eq + Drop, V: Drop, H: KeyHash<K>> HashMap<K, V, H> {
         Ok(())
     }
 
-    /// Makes room for pairs of which at least `coming` come, if it can be allocated: for them all
-    /// in an empty map, and else for half of them, rounded up, since it may have their keys
+    /// Makes room, if it can be allocated, for pairs of which at least `coming` come: in an empty
+    /// map for all of them, else for half of them, rounded up, since the map may contain their keys
     /// already.
     ///
     /// Never fails. O(slots), and O(1) if there is room already.
@@ -155,7 +156,8 @@ impl<K: Eq + Drop, V: Drop, H: KeyHash<K>> HashMap<K, V, H> {
         let _ = self.try_reserve(expected);
     }
 
-    /// Moves all pairs into one array with room for so many, with no fewer slots than now.
+    /// Moves all pairs into one array with room for `pairs` pairs, and with no fewer slots than
+    /// now.
     ///
     /// # Errors
     ///
@@ -176,15 +178,15 @@ impl<K: Eq + Drop, V: Drop, H: KeyHash<K>> HashMap<K, V, H> {
         }
     }
 
-    /// Sets the minimum to 0, and leaves as few slots as the pairs take: the least number of which
-    /// they take no more than 13 of 16, and none for no pair. The pairs stay.
+    /// Sets the minimum to 0, and leaves as few slots as the pairs need: the fewest that they fill
+    /// to at most 13/16, and none for an empty map. The pairs stay.
     ///
     /// # Errors
     ///
-    /// Allocation failure: the map keeps all pairs, and the minimum is 0. It can't fail if there is
-    /// no pair, or if the slots are as few already.
+    /// Allocation failure: the map keeps all pairs, and the minimum is 0. It can't fail if the map
+    /// is empty, or has as few slots already.
     ///
-    /// O(slots). Own: std's `shrink_to_fit`, which can't fail.
+    /// O(slots). Like std's `shrink_to_fit`, which can't fail.
     pub fn shrink_to_fit(&mut self) -> Result<(), AllocError>
         ensures { ShrinksToFit K.eq self.old result self.new }
     {
@@ -208,16 +210,16 @@ impl<K: Eq + Drop, V: Drop, H: KeyHash<K>> HashMap<K, V, H> {
         Ok(())
     }
 
-    /// Sets the minimum to 0, and leaves no more slots than `pairs` pairs take: the least number of
-    /// which they take no more than 13 of 16. If the map has as many pairs, it does as
+    /// Sets the minimum to 0, and leaves no more slots than `pairs` pairs need: the fewest that
+    /// they fill to at most 13/16. If the map has at least that many pairs, this is the same as
     /// `shrink_to_fit`. The pairs stay.
     ///
     /// # Errors
     ///
-    /// Allocation failure: the map keeps all pairs, and the minimum is 0. It can't fail if the
-    /// slots are as few already.
+    /// Allocation failure: the map keeps all pairs, and the minimum is 0. It can't fail if the map
+    /// has as few slots already.
     ///
-    /// O(slots). Own: std's `shrink_to`, which can't fail.
+    /// O(slots). Like std's `shrink_to`, which can't fail.
     pub fn shrink_to(&mut self, pairs: usize) -> Result<(), AllocError>
         ensures { ShrinksTo K.eq pairs self.old result self.new }
     {
@@ -236,11 +238,11 @@ impl<K: Eq + Drop, V: Drop, H: KeyHash<K>> HashMap<K, V, H> {
         Ok(())
     }
 
-    /// Moves all pairs into one array of so many slots.
+    /// Moves all pairs into one array of `slots` slots.
     ///
     /// # Errors
     ///
-    /// Allocation failure, or the map may not have so many slots: the map keeps all pairs.
+    /// Allocation failure, or more slots than the map may have: the map keeps all pairs.
     fn rehash_to(&mut self, slots: usize) -> Result<(), AllocError>
         requires { IsPowerIn 64 (2 ^ 62) slots }
         ensures map { Stays K.eq self.old self.new }

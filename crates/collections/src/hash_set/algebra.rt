@@ -1,4 +1,4 @@
-//! The iterators over the keys that both of two sets have, that either has, or that only one has.
+//! Iterators over the keys in both of two sets, in either, in one only, or in exactly one.
 ghost use Rattle.std.specs.Prelude.{◌≡◌, ◌+◌, IfSome, IsSomeAnd};
 ghost use Rattle.std.specs.Iterator.{YieldsFirstRef, item_count};
 ghost use Rattle.collections.specs.Keys.{keys_of_either, keys_of_one, keys_outside, keys_within};
@@ -9,7 +9,7 @@ use bucket_table::key_hash::KeyHash;
 use std::iter::FusedIterator;
 use std::marker::Model;
 
-/// The keys that are left of those that two sets have. std: `hash_set::Intersection`.
+/// An iterator over the keys in both of two sets. std: `hash_set::Intersection`.
 #[derive(Drop)]
 pub struct Intersection<'a, K: Eq, H: KeyHash<K> = DefaultHash> {
     keys: Iter<'a, K>,
@@ -49,8 +49,7 @@ impl<'a, K: Eq, H: KeyHash<K>> Iterator for Intersection<'a, K, H> {
 
 impl<'a, K: Eq, H: KeyHash<K>> FusedIterator for Intersection<'a, K, H> {}
 
-/// The keys that are left of those that one set has and another hasn't. std:
-/// `hash_set::Difference`.
+/// An iterator over the keys in one set that are not in another. std: `hash_set::Difference`.
 #[derive(Drop)]
 pub struct Difference<'a, K: Eq, H: KeyHash<K> = DefaultHash> {
     keys: Iter<'a, K>,
@@ -90,7 +89,7 @@ impl<'a, K: Eq, H: KeyHash<K>> Iterator for Difference<'a, K, H> {
 
 impl<'a, K: Eq, H: KeyHash<K>> FusedIterator for Difference<'a, K, H> {}
 
-/// The keys that are left of those that either set has. std: `hash_set::Union`.
+/// An iterator over the keys in either of two sets. std: `hash_set::Union`.
 #[derive(Drop)]
 pub struct Union<'a, K: Eq, H: KeyHash<K> = DefaultHash> {
     own: Iter<'a, K>,
@@ -119,8 +118,8 @@ impl<'a, K: Eq, H: KeyHash<K>> Iterator for Union<'a, K, H> {
         self.others.next()
     }
 
-    /// From the number of the first set's keys that are left to that and those of the other that
-    /// weren't looked up yet. O(1).
+    /// From the number of remaining keys of the first set, to the sum of that and the number of the
+    /// other's keys that weren't looked up yet. O(1).
     fn size_hint(&self) -> (usize, Option<usize>) {
         let (least, most) = self.own.size_hint();
         (least, sum_of_bounds(most, self.others.size_hint().1))
@@ -129,8 +128,7 @@ impl<'a, K: Eq, H: KeyHash<K>> Iterator for Union<'a, K, H> {
 
 impl<'a, K: Eq, H: KeyHash<K>> FusedIterator for Union<'a, K, H> {}
 
-/// The keys that are left of those that just one of two sets has. std:
-/// `hash_set::SymmetricDifference`.
+/// An iterator over the keys in exactly one of two sets. std: `hash_set::SymmetricDifference`.
 #[derive(Drop)]
 pub struct SymmetricDifference<'a, K: Eq, H: KeyHash<K> = DefaultHash> {
     own: Difference<'a, K, H>,
@@ -170,7 +168,7 @@ impl<'a, K: Eq, H: KeyHash<K>> Iterator for SymmetricDifference<'a, K, H> {
 
 impl<'a, K: Eq, H: KeyHash<K>> FusedIterator for SymmetricDifference<'a, K, H> {}
 
-/// Returns the sum of two bounds; none where one is none, or where no `usize` is the sum.
+/// Returns the sum of two bounds; `None` if one of them is `None` or the sum isn't a `usize`.
 fn sum_of_bounds(own: Option<usize>, others: Option<usize>) -> Option<usize>
     ensures { IfSome result (λ sum. IsSomeAnd own (λ x. IsSomeAnd others (λ y. sum ≡ x + y))) }
 {
@@ -181,11 +179,11 @@ fn sum_of_bounds(own: Option<usize>, others: Option<usize>) -> Option<usize>
 }
 
 impl<K: Eq, H: KeyHash<K>> HashSet<K, H> {
-    /// Returns an iterator over the set's own keys that another set has too, in the order of the
-    /// view.
+    /// Returns an iterator over the set's own keys that another set contains too, in the order of
+    /// the view.
     ///
-    /// Takes no memory. O(1); all steps together as those of `iter`, and one look-up in the other
-    /// for each key. std: `HashSet::intersection`, which goes over the smaller set.
+    /// Allocates nothing. O(1); all steps together cost those of `iter`, plus one look-up in the
+    /// other set for each key. std: `HashSet::intersection`, which goes over the smaller set.
     pub fn intersection<'a>(&'a self, other: &'a Self) -> Intersection<'a, K, H>
         ensures { result ≡ keys_within K.eq self.now other.now }
     {
@@ -195,10 +193,11 @@ impl<K: Eq, H: KeyHash<K>> HashSet<K, H> {
         }
     }
 
-    /// Returns an iterator over the keys that another set hasn't, in the order of the view.
+    /// Returns an iterator over the keys that another set does not contain, in the order of the
+    /// view.
     ///
-    /// Takes no memory. O(1); all steps together as those of `iter`, and one look-up in the other
-    /// for each key. std: `HashSet::difference`.
+    /// Allocates nothing. O(1); all steps together cost those of `iter`, plus one look-up in the
+    /// other set for each key. std: `HashSet::difference`.
     pub fn difference<'a>(&'a self, other: &'a Self) -> Difference<'a, K, H>
         ensures { result ≡ keys_outside K.eq self.now other.now }
     {
@@ -208,11 +207,12 @@ impl<K: Eq, H: KeyHash<K>> HashSet<K, H> {
         }
     }
 
-    /// Returns an iterator over the keys of both sets, each once: the set's own, and then those of
-    /// the other that it hasn't, each in the order of their view.
+    /// Returns an iterator over the keys of both sets, each once: first the set's own keys, then
+    /// those of the other set that it does not contain, both in the order of their view.
     ///
-    /// Takes no memory. O(1); all steps together as those of `iter` of both, and one look-up for
-    /// each key of the other. std: `HashSet::union`, which begins with the larger set.
+    /// Allocates nothing. O(1); all steps together cost those of `iter` of both sets, plus one
+    /// look-up for each key of the other set. std: `HashSet::union`, which begins with the larger
+    /// set.
     pub fn union<'a>(&'a self, other: &'a Self) -> Union<'a, K, H>
         ensures { result ≡ keys_of_either K.eq self.now other.now }
     {
@@ -222,11 +222,12 @@ impl<K: Eq, H: KeyHash<K>> HashSet<K, H> {
         }
     }
 
-    /// Returns an iterator over the keys that just one of two sets has: the set's own that the
-    /// other hasn't, and then those of the other that it hasn't, each in the order of their view.
+    /// Returns an iterator over the keys in exactly one of two sets: first the set's own keys that
+    /// the other does not contain, then the other's that it does not contain, both in the order of
+    /// their view.
     ///
-    /// Takes no memory. O(1); all steps together as those of `iter` of both, and one look-up for
-    /// each key. std: `HashSet::symmetric_difference`.
+    /// Allocates nothing. O(1); all steps together cost those of `iter` of both sets, plus one
+    /// look-up for each key. std: `HashSet::symmetric_difference`.
     pub fn symmetric_difference<'a>(&'a self, other: &'a Self) -> SymmetricDifference<'a, K, H>
         ensures { result ≡ keys_of_one K.eq self.now other.now }
     {

@@ -9,12 +9,12 @@ use std::alloc::{AllocError, Global};
 
 impl<K: Eq + Clone, H: KeyHash<K> + Clone> HashSet<K, H> {
     /// Returns another set with clones of the keys and of the hasher, and the same capacities,
-    /// whose slots come from the allocator.
+    /// whose slots are allocated from `alloc`.
     ///
     /// # Errors
     ///
     /// Allocation failure; or a key's clone isn't equal to the key, which no law of `Clone` rules
-    /// out. An empty set takes no memory but for its hasher's clone.
+    /// out. An empty set allocates nothing but its hasher's clone.
     ///
     /// O(slots) expected. scc: `HashSet::clone`.
     pub fn try_clone(&self, alloc: Global) -> Result<Self, AllocError>
@@ -29,8 +29,8 @@ impl<K: Eq + Clone, H: KeyHash<K> + Clone> HashSet<K, H> {
     }
 }
 
-/// As `try_clone`, with memory from the set's own allocator, so that a struct with a set can derive
-/// `Clone`.
+/// Like `try_clone`, with memory from the set's own allocator, so that a struct with a set can
+/// derive `Clone`.
 impl<K: Eq + Clone, H: KeyHash<K> + Clone> Clone for HashSet<K, H> {
     ghost is_clone = { λ own copy. IsClone K.eq K.is_clone (λ unit held. held ≡ unit) H.is_clone
         own copy };

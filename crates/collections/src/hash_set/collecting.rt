@@ -9,17 +9,17 @@ use std::alloc::{AllocError, AllocFailed};
 use std::iter::{Extend, IntoIterator};
 
 impl<K: Eq + Drop, H: KeyHash<K>> HashSet<K, H> {
-    /// Inserts the keys of an iterator, one after the other: if the set has an equal key, that one
-    /// stays and the other is dropped.
+    /// Inserts the keys of an iterator, one after the other: if the set contains an equal key, that
+    /// one stays and the other is dropped.
     ///
     /// # Errors
     ///
     /// Allocation failure: the key that wasn't inserted is returned, those before it are in the
-    /// set, and those after it are still in the iterator. The set has no key equal to it.
+    /// set, and those after it are still in the iterator. The set contains no key equal to it.
     ///
-    /// It makes no room first, so each insertion moves no more than one does alone.
+    /// It reserves no room first, so each insertion moves no more keys than a single one does.
     ///
-    /// O(keys) expected, plus any resizes. Own: std's `HashSet::extend`, and nothing is lost.
+    /// O(keys) expected, plus any resizes. Like std's `HashSet::extend`, but nothing is lost.
     pub fn try_extend<I: Iterator<Item = K>>(&mut self, keys: &mut I) -> Result<(), AllocFailed<K>>
         requires can { I.can_next keys.old }
         requires finite { IsFinite (I.remaining keys.old) }
@@ -37,9 +37,9 @@ impl<K: Eq + Drop, H: KeyHash<K>> HashSet<K, H> {
     }
 }
 
-/// Makes room for the keys that an iterator has at least, if it can be allocated, and inserts the
-/// keys, as `try_extend` does. A set that has keys makes room for half of them, rounded up, since
-/// it may have them already.
+/// Reserves room for as many keys as the iterator has at least, if that can be allocated, and
+/// inserts the keys, as `try_extend` does. A set that isn't empty reserves room for half of them,
+/// rounded up, since it may contain them already.
 ///
 /// If allocation fails, the key that wasn't inserted is dropped, and so are those after it;
 /// `try_extend` loses none.
@@ -56,7 +56,8 @@ impl<K: Eq + Drop, H: KeyHash<K>> Extend<K> for HashSet<K, H> {
     }
 }
 
-/// Inserts copies of the keys that an iterator borrows, as keys by value, and makes room first.
+/// Inserts copies of the keys that an iterator borrows, like keys by value, and reserves room
+/// first.
 impl<'a, K: Eq + Copy + 'a, H: KeyHash<K>> Extend<&'a K> for HashSet<K, H> {
     ghost extend_gives = { λ old keys new. PutsKeys K.eq old (map (λ key. key.now) keys) new };
 

@@ -11,13 +11,13 @@ use bucket_table::key_hash::KeyHash;
 use std::iter::{FusedIterator, IntoIterator};
 use std::marker::Model;
 
-/// An iterator over the keys that are left of those that a set had. std: `hash_set::Drain`.
+/// A draining iterator over the keys of a set. std: `hash_set::Drain`.
 #[derive(Drop)]
 pub struct Drain<K> {
     inner: IntoKeys<K, ()>,
 }
 
-/// The keys of a set by value that are left. std: `hash_set::IntoIter`.
+/// An iterator over the keys of a set by value. std: `hash_set::IntoIter`.
 pub type IntoIter<K> = Drain<K>;
 
 impl<K> Model for Drain<K> {
@@ -39,7 +39,7 @@ impl<K: Drop> Iterator for Drain<K> {
         self.inner.next()
     }
 
-    /// As that of a map's keys. O(1).
+    /// The size hint of a map's keys. O(1).
     fn size_hint(&self) -> (usize, Option<usize>) {
         self.inner.size_hint()
     }
@@ -49,10 +49,10 @@ impl<K: Drop> FusedIterator for Drain<K> {}
 
 impl<K: Eq, H: KeyHash<K>> HashSet<K, H> {
     /// Returns an iterator over all keys by value, in the order of the view. The set is empty at
-    /// once and has no slots; the hasher and the capacities stay. If the iterator is dropped
-    /// half-way, the rest is dropped with it.
+    /// once and has no slots; the hasher and the capacities stay. If the iterator is dropped early,
+    /// the rest is dropped with it.
     ///
-    /// Takes no memory, and never fails. O(1); all steps together O(slots). std: `HashSet::drain`,
+    /// Allocates nothing and never fails. O(1); all steps together O(slots). std: `HashSet::drain`,
     /// which borrows the set and keeps its memory.
     pub fn drain(&mut self) -> Drain<K>
         ensures rest { result ≡ keys_of self.old.entries }
@@ -68,7 +68,7 @@ impl<K: Eq, H: KeyHash<K>> HashSet<K, H> {
     }
 }
 
-/// Takes no memory. As `drain`.
+/// Allocates nothing. The same cost as `drain`.
 impl<K: Eq + Drop, H: KeyHash<K> + Drop> IntoIterator for HashSet<K, H> {
     type Item = K;
 

@@ -9,7 +9,7 @@ use std::alloc::{AllocError, Global};
 use std::default::{Emptied, MadeWith};
 use std::hash::Hash;
 
-/// `mem::try_take(&mut set)` takes a set, and leaves an empty one, as for a map. O(1).
+/// `mem::try_take(&mut set)` takes a set, and leaves an empty one, as with a map. O(1).
 impl<K: Eq, H: KeyHash<K> + Clone> Emptied for HashSet<K, H> {
     ghost is_emptied = { λ set. set ≡ empty_map set.hasher };
 

@@ -26,12 +26,12 @@ impl<K: Eq, H: KeyHash<K>> HashSet<K, H> {
 
     /// Returns an iterator that removes the keys for which a function returns `true`, in the order
     /// of the view. Each step calls the function with the next keys, one by one, until it returns
-    /// `true`; that key is removed and returned. Each key is tried once. If the iterator is dropped
-    /// half-way, the keys that it hasn't reached stay.
+    /// `true`; that key is removed and returned. Each key is tested once. If the iterator is
+    /// dropped early, the keys that it hasn't reached stay.
     ///
     /// The slots stay, and the iterator holds the arrays, as in `HashMap::extract_if`.
     ///
-    /// Never fails, and takes no memory. O(1); all steps and its drop together O(slots), and the
+    /// Never fails and allocates nothing. O(1); all steps and its drop together O(slots), plus the
     /// function's calls. std: `HashSet::extract_if`.
     pub fn extract_if<F: FnMut(&K) -> bool>(&mut self, test: F) -> ExtractIf<'_, K, H, F>
         requires callable { F.IsAlwaysCallable test }
@@ -79,7 +79,7 @@ impl<'a, K: Eq + Drop, H: KeyHash<K>, F: FnMut(&K) -> bool> Iterator
         }
     }
 
-    /// From 0 to the number of keys that weren't tried yet. O(1).
+    /// From 0 to the number of keys that weren't tested yet. O(1).
     fn size_hint(&self) -> (usize, Option<usize>) {
         (0, self.taken.most_left())
     }

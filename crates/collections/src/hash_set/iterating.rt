@@ -11,7 +11,7 @@ use std::alloc::AllocError;
 use std::iter::{FusedIterator, IntoIterator};
 use std::marker::Model;
 
-/// The keys of a set that are left. std: `hash_set::Iter`.
+/// An iterator over the keys of a set. std: `hash_set::Iter`.
 #[derive(Drop)]
 pub struct Iter<'a, K> {
     inner: Keys<'a, K, ()>,
@@ -36,13 +36,13 @@ impl<'a, K> Iterator for Iter<'a, K> {
         self.inner.next()
     }
 
-    /// As that of a map's keys. O(1).
+    /// The size hint of a map's keys. O(1).
     fn size_hint(&self) -> (usize, Option<usize>) {
         self.inner.size_hint()
     }
 }
 
-/// Takes no memory, and can't fail.
+/// Allocates nothing and can't fail.
 impl<'a, K> Clone for Iter<'a, K> {
     ghost is_clone = { λ own copy. copy ≡ own };
 
@@ -59,8 +59,8 @@ impl<'a, K> FusedIterator for Iter<'a, K> {}
 impl<K: Eq, H: KeyHash<K>> HashSet<K, H> {
     /// Returns an iterator over the keys, in the order of the view.
     ///
-    /// Takes no memory. O(1); all steps together O(slots, and the square of the number of blocks of
-    /// each chain). std: `HashSet::iter`.
+    /// Allocates nothing. O(1); all steps together O(slots), plus the square of the number of
+    /// blocks of each chain. std: `HashSet::iter`.
     pub fn iter(&self) -> Iter<'_, K>
         ensures rest { result ≡ keys_of self.now.entries }
         ensures unique { IsUnique K.eq self.now }

@@ -1,4 +1,4 @@
-//! The calls of std's `HashSet` that return a key of the set, or a `bool`.
+//! Calls of std's `HashSet` that return a key of the set, or a `bool`.
 ghost use Rattle.std.specs.Prelude.{◌≡◌, IfSome, IsTrue, OnErr, is_some};
 ghost use Rattle.std.specs.Option.{option_copied};
 ghost use Rattle.collections.specs.Changes.{TakesOut};
@@ -15,10 +15,9 @@ use bucket_table::key_hash::KeyHash;
 use std::alloc::AllocFailed;
 
 impl<K: Eq, H: KeyHash<K>> HashSet<K, H> {
-    /// Returns the set's own key that is equal, or that a form stands for; `None` if the set has
-    /// none.
+    /// Returns the set's own key that matches `key`, a key or a form of one; `None` if absent.
     ///
-    /// Moves nothing, and takes no memory. O(1) expected. std: `HashSet::get`.
+    /// Moves no pairs and allocates nothing. O(1) expected. std: `HashSet::get`.
     pub fn get<Q: KeyForm<K, H>>(&self, key: Q) -> Option<&K>
         ensures key { option_copied result ≡ key_by (Q.stands_for key) self.now }
         ensures same_key { IfSome result (λ own. IsTrue (Q.stands_for key own.now)) }
@@ -32,12 +31,12 @@ impl<K: Eq, H: KeyHash<K>> HashSet<K, H> {
 }
 
 impl<K: Eq + Drop, H: KeyHash<K>> HashSet<K, H> {
-    /// Inserts a key if the set has no equal one, and returns whether it was inserted. If the set
-    /// has an equal key, that one stays and the other is dropped.
+    /// Inserts a key if the set contains no equal one, and returns whether it was inserted. If the
+    /// set contains an equal key, that one stays and the other is dropped.
     ///
     /// # Errors
     ///
-    /// Allocation failure: the set has no equal key, and the key is returned.
+    /// Allocation failure: the set contains no equal key, and the key is returned.
     ///
     /// O(1) expected, plus any resize. std: `HashSet::insert`.
     pub fn insert(&mut self, key: K) -> Result<bool, AllocFailed<K>>
@@ -52,7 +51,7 @@ impl<K: Eq + Drop, H: KeyHash<K>> HashSet<K, H> {
         }
     }
 
-    /// Drops the key that is equal, or that a form stands for, and returns whether the set had one.
+    /// Drops the key that matches `key`, a key or a form of one, and returns whether there was one.
     ///
     /// Never fails. O(1) expected, plus any resize. std: `HashSet::remove`.
     pub fn remove<Q: KeyForm<K, H>>(&mut self, key: Q) -> bool
@@ -66,12 +65,12 @@ impl<K: Eq + Drop, H: KeyHash<K>> HashSet<K, H> {
         true
     }
 
-    /// Inserts a key in the place of the equal one, which it returns; `None` if the set had none.
-    /// If the set has an equal key, the call never fails.
+    /// Inserts a key in place of the equal one, and returns that one, or `None` if there was none.
+    /// If the set contains an equal key, the call never fails.
     ///
     /// # Errors
     ///
-    /// Allocation failure, as in `insert`: the set has no equal key, and the key is returned.
+    /// Allocation failure, as in `insert`: the set contains no equal key, and the key is returned.
     ///
     /// O(1) expected, plus any resize. std: `HashSet::replace`.
     pub fn replace(&mut self, key: K) -> Result<Option<K>, AllocFailed<K>>

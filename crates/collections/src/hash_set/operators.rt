@@ -1,7 +1,7 @@
-//! `&own | &other` and its kin, which insert clones of keys into a new set.
+//! `&own | &other`, and the same with `&`, `-` and `^`: each inserts clones of keys into a new set.
 //!
-//! The new set has the first one's allocator, a clone of its hasher, and room for as many keys as
-//! the first one has. A call fails if allocation does, or if a key's clone isn't equal to the key.
+//! The new set has the first set's allocator, a clone of its hasher, and room for as many keys as
+//! the first set has. A call fails if allocation fails, or if a key's clone isn't equal to the key.
 ghost use Rattle.std.specs.Prelude.{◌&&◌, ◌||◌, IfOk, OnOk, not};
 ghost use Rattle.std.specs.Iterator.{IsFinite};
 ghost use Rattle.collections.specs.Clones.{JoinsClones, PutsClonesFrom, PutsKeyClone};
@@ -66,7 +66,7 @@ impl<K: Eq + Clone, H: KeyHash<K>> HashSet<K, H> {
     }
 }
 
-/// `&own | &other` is a set of clones of the keys that either set has.
+/// `&own | &other` is a set of clones of the keys in either set.
 impl<'a, 'b, K: Eq + Clone, H: KeyHash<K> + Clone> BitOr<&'b HashSet<K, H>> for &'a HashSet<K, H> {
     type Output = Result<HashSet<K, H>, AllocError>;
 
@@ -80,7 +80,7 @@ impl<'a, 'b, K: Eq + Clone, H: KeyHash<K> + Clone> BitOr<&'b HashSet<K, H>> for 
     }
 }
 
-/// `&own & &other` is a set of clones of the keys that both sets have.
+/// `&own & &other` is a set of clones of the keys in both sets.
 impl<'a, 'b, K: Eq + Clone, H: KeyHash<K> + Clone> BitAnd<&'b HashSet<K, H>> for &'a HashSet<K, H> {
     type Output = Result<HashSet<K, H>, AllocError>;
 
@@ -94,7 +94,7 @@ impl<'a, 'b, K: Eq + Clone, H: KeyHash<K> + Clone> BitAnd<&'b HashSet<K, H>> for
     }
 }
 
-/// `&own - &other` is a set of clones of the keys that the first set has and the other hasn't.
+/// `&own - &other` is a set of clones of the keys in the first set that aren't in the other.
 impl<'a, 'b, K: Eq + Clone, H: KeyHash<K> + Clone> Sub<&'b HashSet<K, H>> for &'a HashSet<K, H> {
     type Output = Result<HashSet<K, H>, AllocError>;
 
@@ -108,7 +108,7 @@ impl<'a, 'b, K: Eq + Clone, H: KeyHash<K> + Clone> Sub<&'b HashSet<K, H>> for &'
     }
 }
 
-/// `&own ^ &other` is a set of clones of the keys that just one of the sets has.
+/// `&own ^ &other` is a set of clones of the keys in exactly one of the sets.
 impl<'a, 'b, K: Eq + Clone, H: KeyHash<K> + Clone> BitXor<&'b HashSet<K, H>> for &'a HashSet<K, H> {
     type Output = Result<HashSet<K, H>, AllocError>;
 

@@ -1,4 +1,4 @@
-//! Slices as the form of keys that have the items of a slice and aren't a `Vec`.
+//! Slices as the form of keys that have the items of a slice but aren't a `Vec`.
 ghost use Rattle.std.specs.Box.{boxed_slice_items};
 ghost use Rattle.std.specs.Cow.{cow_slice_items};
 

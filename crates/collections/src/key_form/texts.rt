@@ -1,4 +1,4 @@
-//! Texts as the form of keys that have the bytes of a text and aren't a `String`.
+//! Texts as the form of keys that have the bytes of a text but aren't a `String`.
 ghost use Rattle.std.specs.Prelude.{◌≡◌, true};
 ghost use Rattle.std.specs.Box.{boxed_str_bytes};
 ghost use Rattle.std.specs.Cow.{cow_str_bytes};

@@ -6,12 +6,12 @@ use bucket_table::key_hash::{KeyHash, StdHash};
 use std::alloc::{AllocError, Global};
 use std::hash::{BuildHasher, Hash};
 
-/// A form from which a key can be made. Own; hashbrown has `From` for that.
+/// A form from which a key can be made. hashbrown uses `From` for this.
 pub trait ToKey<K: Eq, H: KeyHash<K>>: KeyForm<K, H> {
     /// Whether the call may fail for the form.
     ghost may_lack: { Self → Type 0 };
 
-    /// Returns a key for which the form stands, whose memory comes from the allocator.
+    /// Returns a key that the form stands for, whose memory comes from `alloc`.
     ///
     /// # Errors
     ///
@@ -37,7 +37,7 @@ impl<'k, K: Eq + Clone, H: KeyHash<K>> ToKey<K, H> for &'k K {
     }
 }
 
-/// The key has the bytes of the text. An empty one takes no memory.
+/// The key has the bytes of the text. An empty one allocates nothing.
 impl<'s, S: BuildHasher> ToKey<String, StdHash<S>> for &'s str {
     ghost may_lack = { λ form. 0 < length form.now };
 
@@ -49,7 +49,7 @@ impl<'s, S: BuildHasher> ToKey<String, StdHash<S>> for &'s str {
     }
 }
 
-/// The key has clones of the items, if they are equal. One of no items takes no memory.
+/// The key has clones of the items, if they are equal. One of no items allocates nothing.
 impl<'s, T: Eq + Hash + Clone, S: BuildHasher> ToKey<Vec<T>, StdHash<S>> for &'s [T] {
     ghost may_lack = { λ form. 0 < length form.now };
 

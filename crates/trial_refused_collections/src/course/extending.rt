@@ -1,4 +1,4 @@
-//! Pairs that are inserted into a map or a set in one call, some of them present already.
+//! Pairs inserted into a map or a set in one call, some of them present already.
 use super::{Course, GATHERING, key_of};
 use crate::collection::Collection;
 
@@ -31,8 +31,8 @@ impl Course {
         }
     }
 
-    /// Notes what was inserted before the key whose insertion failed. Returns whether that key was
-    /// absent, and whether the iterator continues with the next one.
+    /// Records what was inserted before the key whose insertion failed. Returns whether that key
+    /// was absent, and whether the iterator continues with the next one.
     fn extends(&mut self, has_values: bool, refused: Option<u64>, left: Option<u64>) -> bool {
         let end = match refused {
             Some(key) => key.wrapping_mul(GATHERING),

@@ -1,11 +1,11 @@
-//! A cache that is resized.
+//! Resizing a cache.
 use super::{Course, key_of};
 use crate::collection::Collection;
 use test_helpers::KEYS;
 
 impl Course {
     /// Resizes a cache of 64 slots to 128, and any other cache to 64, and returns whether the
-    /// result is right; another collection frees slots.
+    /// result is right; in another collection frees slots.
     pub(super) fn resize(&mut self) -> bool {
         let Collection::Cache(cache) = &mut self.collection else {
             return self.collection.shrink_to_fit();
@@ -18,7 +18,7 @@ impl Course {
         self.lets_go()
     }
 
-    /// Notes the pairs that are gone, and returns whether the others have their values.
+    /// Records the pairs that were evicted, and returns whether the others have their values.
     fn lets_go(&mut self) -> bool {
         for number in 0..KEYS {
             let found = self.collection.value(key_of(number));

@@ -14,10 +14,10 @@ impl<'a, K: Eq + Drop, V: Drop, H: KeyHash<K>> Entry<'a, K, V, H> {
     ghost use Rattle.collections.specs.Entries.{entry_key, entry_map, is_occupied};
     ghost use Rattle.collections.specs.Loans.{LendsPut};
 
-    /// Returns a mutable reference to the value under the key; if the map hasn't the key, it first
-    /// inserts it with what the function makes of the key. When the borrow ends, the key has the
-    /// value last written, and each other key its earlier value. If the map has the key, the
-    /// function isn't called and the call never fails.
+    /// Returns a mutable reference to the value under the key; if the map does not contain the key,
+    /// it first inserts the key with the value that the function makes from it. When the borrow
+    /// ends, the key has the value last written; the other keys keep theirs. If the map contains
+    /// the key, the function isn't called and the call never fails.
     ///
     /// # Errors
     ///
@@ -52,17 +52,17 @@ impl<'a, K: Eq + Drop, V: Drop, H: KeyHash<K>> Entry<'a, K, V, H> {
     ghost use Rattle.collections.specs.Entries.{entry_key, entry_map, is_occupied};
     ghost use Rattle.collections.specs.Loans.{LendsTried};
 
-    /// Returns a mutable reference to the value under the key; if the map hasn't the key, it first
-    /// inserts it with what the function makes. When the borrow ends, the key has the value last
-    /// written, and each other key its earlier value. If the map has the key, the function isn't
-    /// called and the call never fails.
+    /// Returns a mutable reference to the value under the key; if the map does not contain the key,
+    /// it first inserts the key with the value that the function returns. When the borrow ends, the
+    /// key has the value last written; the other keys keep theirs. If the map contains the key, the
+    /// function isn't called and the call never fails.
     ///
     /// # Errors
     ///
     /// The function's error; or allocation failed, and `E::from` makes the error from the key and
     /// the value made.
     ///
-    /// O(1) expected, plus any resize. Own: as the kit's `Entry::or_try_insert_with`.
+    /// O(1) expected, plus any resize. Like the kit's `Entry::or_try_insert_with`.
     pub fn or_try_insert_with<E: From<AllocFailed<(K, V)>>, F: FnOnce() -> Result<V, E>>(
         self,
         make: F,
@@ -91,8 +91,8 @@ impl<'a, K: Eq + Drop, V: Drop, H: KeyHash<K>> Entry<'a, K, V, H> {
 impl<'a, K: Eq + Drop, V: Drop, H: KeyHash<K>> VacantEntry<'a, K, V, H> {
     ghost use Rattle.collections.specs.Loans.{LendsAdded, LendsTriedNew};
 
-    /// Inserts the key with what a function makes, and returns a mutable reference to that value;
-    /// returns the function's error, or the error of an insertion that failed.
+    /// Inserts the key with the value that a function returns, and returns a mutable reference to
+    /// that value; or returns the function's error, or that of a failed insertion.
     fn insert_tried<E: From<AllocFailed<(K, V)>>, F: FnOnce() -> Result<V, E>>(
         self,
         make: F,
@@ -120,8 +120,8 @@ impl<'a, K: Eq + Drop, V: Drop, H: KeyHash<K>> VacantEntry<'a, K, V, H> {
         }
     }
 
-    /// Inserts the key with what a function makes of it, and returns a mutable reference to that
-    /// value.
+    /// Inserts the key with the value that a function makes from it, and returns a mutable
+    /// reference to that value.
     fn insert_made<F: FnOnce(&K) -> V>(self, make: F) -> Result<&'a mut V, AllocFailed<(K, V)>>
         requires callable { (key : Bor K) → key.now ≡ self.key → F.pre make key }
         ensures* writes_back { sem 𝓛

@@ -10,7 +10,7 @@ use bucket_table::key_hash::KeyHash;
 use std::mem;
 
 impl<'a, K: Eq, V, H: KeyHash<K>> OccupiedEntry<'a, K, V, H> {
-    /// Returns the key that was asked for; the map's own is equal to it.
+    /// Returns the requested key; the map's own key is equal to it.
     ///
     /// O(1). std: `OccupiedEntry::key`.
     pub fn key(&self) -> &K
@@ -21,7 +21,7 @@ impl<'a, K: Eq, V, H: KeyHash<K>> OccupiedEntry<'a, K, V, H> {
 
     /// Returns the value under the key.
     ///
-    /// Moves nothing. O(1) expected. std: `OccupiedEntry::get`.
+    /// Moves no pairs. O(1) expected. std: `OccupiedEntry::get`.
     pub fn get(&self) -> &V
         ensures { get K.eq self.now.map.now self.now.key ≡ Some result.now }
     {
@@ -35,7 +35,7 @@ impl<'a, K: Eq + Drop, V: Drop, H: KeyHash<K>> OccupiedEntry<'a, K, V, H> {
     /// Calls a function with a mutable reference to the value under the key, and returns what the
     /// function returns.
     ///
-    /// Never fails. O(1) expected. Own: for keys that aren't `Copy`, in place of std's
+    /// Never fails. O(1) expected. For keys that aren't `Copy`, it replaces std's
     /// `OccupiedEntry::get_mut`.
     pub fn update<R, F: FnOnce(&mut V) -> R>(&mut self, change: F) -> R
         requires callable { (value : MutBor V) → F.pre change value }
@@ -53,10 +53,9 @@ impl<'a, K: Eq + Drop, V: Drop, H: KeyHash<K>> OccupiedEntry<'a, K, V, H> {
     }
 
     /// Returns a mutable reference to the value under the key, for as long as the map is borrowed.
-    /// When the borrow ends, the key has the value last written, and each other key its earlier
-    /// value.
+    /// When the borrow ends, the key has the value last written; the other keys keep theirs.
     ///
-    /// Moves nothing. O(1) expected. std: `OccupiedEntry::into_mut`.
+    /// Moves no pairs. O(1) expected. std: `OccupiedEntry::into_mut`.
     pub fn into_mut(self) -> &'a mut V
         ensures* writes_back { sem 𝓛
             (LendsThere K.row V.row H.row K.PartialEq H.KeyHash self.entry.map
@@ -69,7 +68,7 @@ impl<'a, K: Eq + Drop, V: Drop, H: KeyHash<K>> OccupiedEntry<'a, K, V, H> {
         map.value_mut_hashed(hash, &key)
     }
 
-    /// Writes the value under the key, and returns the earlier one; the map's own key stays.
+    /// Replaces the value under the key, and returns the earlier one; the map's own key stays.
     ///
     /// Never fails. O(1) expected. std: `OccupiedEntry::insert`.
     pub fn insert(&mut self, value: V) -> V
@@ -112,10 +111,10 @@ impl<'a, K: Eq + Copy, V: Drop, H: KeyHash<K>> OccupiedEntry<'a, K, V, H> {
     ghost use Rattle.collections.specs.EntryLoans.{LendsHeld};
 
     /// Returns a mutable reference to the value under the key. When the borrow ends, the key has
-    /// the value last written, and each other key its earlier value; the entry stays. For a key
-    /// that isn't `Copy`: `update`, `into_mut`, or an entry by a form.
+    /// the value last written; the other keys keep theirs. The entry stays usable. For keys that
+    /// aren't `Copy`, use `update`, `into_mut`, or an entry by a form.
     ///
-    /// Moves nothing. O(1) expected. std: `OccupiedEntry::get_mut`.
+    /// Moves no pairs. O(1) expected. std: `OccupiedEntry::get_mut`.
     pub fn get_mut(&mut self) -> &mut V
         ensures* writes_back { sem 𝓛
             (LendsHeld K.row V.row H.row K.PartialEq H.KeyHash self.entry result) }

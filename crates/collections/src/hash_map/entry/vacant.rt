@@ -18,7 +18,7 @@ use bucket_table::key_hash::KeyHash;
 use std::alloc::{AllocError, AllocFailed};
 
 impl<'a, K: Eq, V, H: KeyHash<K>> VacantEntry<'a, K, V, H> {
-    /// Returns the key that was asked for.
+    /// Returns the requested key.
     ///
     /// O(1). std: `VacantEntry::key`.
     pub fn key(&self) -> &K
@@ -47,7 +47,7 @@ impl<'a, K: Eq + Drop, V: Drop, H: KeyHash<K>> VacantEntry<'a, K, V, H> {
     ghost use Rattle.collections.specs.Loans.{LendsAdded};
 
     /// Inserts the key with a value, and returns a mutable reference to that value. When the borrow
-    /// ends, the map has one pair more: the key with the value last written.
+    /// ends, the map has one more pair: the key with the value last written.
     ///
     /// # Errors
     ///

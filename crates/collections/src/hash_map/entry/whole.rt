@@ -12,9 +12,9 @@ use std::default::MadeWith;
 impl<K: Eq, V, H: KeyHash<K>> HashMap<K, V, H> {
     ghost use Rattle.collections.specs.Entries.{entry_key, entry_map, is_occupied};
 
-    /// Returns the entry of a key, which is occupied exactly if the map has the key.
+    /// Returns the entry of a key, which is occupied exactly if the map contains the key.
     ///
-    /// Never fails, moves nothing, and takes no memory. O(1) expected. std: `HashMap::entry`.
+    /// Never fails, moves no pairs, and allocates nothing. O(1) expected. std: `HashMap::entry`.
     pub fn entry(&mut self, key: K) -> Entry<'_, K, V, H>
         ensures key { entry_key result ≡ key }
         ensures found { is_occupied result ≡ contains K.eq self.old key }
@@ -41,7 +41,7 @@ impl<K: Eq, V, H: KeyHash<K>> HashMap<K, V, H> {
 impl<'a, K: Eq, V, H: KeyHash<K>> Entry<'a, K, V, H> {
     ghost use Rattle.collections.specs.Entries.{entry_key};
 
-    /// Returns the key that was asked for.
+    /// Returns the requested key.
     ///
     /// O(1). std: `Entry::key`.
     pub fn key(&self) -> &K
@@ -66,8 +66,8 @@ impl<'a, K: Eq + Drop, V: Drop, H: KeyHash<K>> Entry<'a, K, V, H> {
     ghost use Rattle.collections.specs.Entries.{Modifies, entry_key, entry_map, is_occupied};
     ghost use Rattle.collections.specs.Loans.{LendsPut};
 
-    /// Calls a function with a mutable reference to the value under the key, if the map has the
-    /// key. Returns the entry.
+    /// Calls a function with a mutable reference to the value under the key, if the map contains
+    /// the key. Returns the entry.
     ///
     /// Never fails. O(1) expected. std: `Entry::and_modify`.
     pub fn and_modify<F: FnOnce(&mut V)>(self, change: F) -> Entry<'a, K, V, H>
@@ -87,9 +87,9 @@ impl<'a, K: Eq + Drop, V: Drop, H: KeyHash<K>> Entry<'a, K, V, H> {
         }
     }
 
-    /// Returns a mutable reference to the value under the key; if the map hasn't the key, it first
-    /// inserts it with the default. When the borrow ends, the key has the value last written, and
-    /// each other key its earlier value. If the map has the key, the call never fails.
+    /// Returns a mutable reference to the value under the key; if the map does not contain the key,
+    /// it first inserts the key with the default. When the borrow ends, the key has the value last
+    /// written; the other keys keep theirs. If the map contains the key, the call never fails.
     ///
     /// # Errors
     ///
@@ -111,10 +111,10 @@ impl<'a, K: Eq + Drop, V: Drop, H: KeyHash<K>> Entry<'a, K, V, H> {
         }
     }
 
-    /// Returns a mutable reference to the value under the key; if the map hasn't the key, it first
-    /// inserts it with what the function makes. When the borrow ends, the key has the value last
-    /// written, and each other key its earlier value. If the map has the key, the function isn't
-    /// called and the call never fails.
+    /// Returns a mutable reference to the value under the key; if the map does not contain the key,
+    /// it first inserts the key with the value that the function returns. When the borrow ends, the
+    /// key has the value last written; the other keys keep theirs. If the map contains the key, the
+    /// function isn't called and the call never fails.
     ///
     /// # Errors
     ///
@@ -139,11 +139,11 @@ impl<'a, K: Eq + Drop, V: Drop, H: KeyHash<K>> Entry<'a, K, V, H> {
         }
     }
 
-    /// Returns a mutable reference to the value under the key; if the map hasn't the key, it first
-    /// inserts it with the default value. The default of a collection or a `String` is the empty
-    /// one, whose memory comes from the map's allocator. When the borrow ends, the key has the
-    /// value last written, and each other key its earlier value. If the map has the key, the call
-    /// never fails.
+    /// Returns a mutable reference to the value under the key; if the map does not contain the key,
+    /// it first inserts the key with the default value. The default of a collection or a `String`
+    /// is the empty one, whose memory comes from the map's allocator. When the borrow ends, the key
+    /// has the value last written; the other keys keep theirs. If the map contains the key, the
+    /// call never fails.
     ///
     /// # Errors
     ///

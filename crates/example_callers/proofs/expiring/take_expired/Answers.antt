@@ -12,7 +12,7 @@ Asks time s pair answer t later = (answer ≡ nat_lt pair.1 time) × (later ≡ 
 abbrev Picks : ℕ → List (ℕ × ℕ) → Option (ℕ × ℕ) → List (ℕ × ℕ) → List (ℕ × ℕ) → Type 0
 Picks time = IsPickedBy (Asks time) (λ session. nat_lt session.1 time) (λ s x answer t y e. e)
 
--- the closure was asked of the sessions in turn
+-- the closure was called with the sessions in turn
 picked : (c : goal.After-sessions-1) → Picks c.args.time c.extract_if-expired.result.taken.left c.next.result
     c.next.ensures.steps.extracted.kept c.next.new.self.taken.left
 picked c =

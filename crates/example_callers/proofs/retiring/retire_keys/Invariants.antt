@@ -6,7 +6,7 @@ use Rattle.collections.specs.Maps.{contains, map_of}
 use Rattle.example_callers.specs.Without.{IsWithout}
 use Rattle.example_callers.proofs.retiring.retire_keys.Given as goal
 
--- the keys so far are gone, and no tombstone is new but of epoch 0
+-- the keys so far are removed, and the only new tombstones have epoch 0
 abbrev pub invariant-loop-key : goal.invariant-loop-key
 invariant-loop-key g l = IsWithout g.K.PartialEq.eq (take l.key-index l.retired) (map_of l.fn.index) (map_of l.index)
     × MarksBy 0 (marks_of l.fn.index.arrays) (marks_of l.index.arrays)

@@ -1,4 +1,4 @@
--- `into_parts` moves the pointer and the allocator, and what they own goes with them.
+-- `into_parts` moves the pointer and the allocator, with what they own.
 use Rattle.std.proofs.Common.{◌≡◌, List, [], ◌∷◌, ◌++◌, true, is_some, refl, sym, subst}
 use mir.Val.{Val, vptr}
 use base.Logic.{SProp, ent, id⊢}

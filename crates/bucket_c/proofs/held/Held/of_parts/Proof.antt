@@ -1,4 +1,4 @@
--- `of_parts` moves the pointer and the allocator, and what they own goes with them.
+-- `of_parts` moves the pointer and the allocator, with what they own.
 use Rattle.std.proofs.Common.{List, [], ◌∷◌, ◌++◌, Some, refl, sym, subst}
 use mir.Val.{Val, vptr}
 use base.Logic.{SProp, ent, emp, id⊢}

@@ -13,7 +13,7 @@ learn_asks-requires g c = record {
       (λ s a r t i e. mut_next g.F.FnMut _ _ _ _ _ e.met.1.1.2 refl i) _ c.requires.callable;
 }
 
--- the function that the closure borrows is the one that it was, may be called again, and was asked of the pairs
+-- the function that the closure borrows is the same one, may be called again, and was called with the pairs
 went : (g : _) (c : goal.After-f-1 g) → (c.f-1.given.0 ≡ c.retain_mut.new.f.0.now) × always_mut g.F.FnMut c.retain_mut.new.f.0.now
     × Retains g.K.PartialEq.eq (λ s own before answer after t. (after.now ≡ before.now) × ((value : Bor g.row.V.Denot)
     × (value.now ≡ before.now) × Called g.F.FnMut s (own, (value, tt)) answer t))

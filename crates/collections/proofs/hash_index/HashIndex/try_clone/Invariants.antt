@@ -1,4 +1,4 @@
--- Clones of the pairs so far are put, and no tombstone is left.
+-- Clones of the pairs so far are inserted, and no tombstone is left.
 use Rattle.std.proofs.Common.{◌≡◌, [], length}
 use Rattle.bucket_table.specs.Views.ArraysView.{marks_of}
 use Rattle.collections.specs.Maps.{map_of}

@@ -11,7 +11,7 @@ learn_asks-requires g c = record {
       (λ s a r t i e. mut_next g.F.FnMut _ _ _ _ _ e.met.1.1.6 refl i) _ c.requires.callable;
 }
 
--- the function that the closure borrows is the one that it was, may be called again, and was lent the values
+-- the function that the closure borrows is the same one, may be called again, and was lent the values
 went : (g : _) (c : goal.After-f-1 g) → (c.f-1.given.0 ≡ c.retain_ref.new.f.0.now) × always_mut g.F.FnMut c.retain_ref.new.f.0.now
     × Retains g.K.PartialEq.eq (λ s own before answer after t. (answer ≡ true) × Called g.F.FnMut s (own, (before, tt)) (tt, (after, tt)) t)
     c.args.f.now c.args.self.now c.retain_ref.new.self c.retain_ref.new.f.0.now

@@ -1,4 +1,4 @@
--- Clones of the pairs so far are put.
+-- Clones of the pairs so far are inserted.
 use Rattle.std.proofs.Common.{length}
 use Rattle.collections.proofs.Cloning.{IsCloning}
 use Rattle.collections.proofs.hash_map.HashMap.try_clone.Given as goal

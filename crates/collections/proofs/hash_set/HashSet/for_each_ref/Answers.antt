@@ -12,7 +12,7 @@ learn_visits-requires g c = record {
       (λ s a r t i e. mut_next g.F.FnMut _ _ _ _ _ e.met.1.called refl i) _ c.requires.callable;
 }
 
--- the function that the closure borrows is the one that it was, and went over the keys
+-- the function that the closure borrows is the same one, and was called with the keys
 went : (g : _) (c : goal.After-f-1 g) → (c.f-1.given.0 ≡ c.for_each_ref.new.f.0.now)
     × CallsEachKey g.F.FnMut c.args.f.now (keys_of c.args.self.now.entries) c.for_each_ref.new.f.0.now
 went g c =

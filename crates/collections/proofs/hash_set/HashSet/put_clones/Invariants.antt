@@ -1,4 +1,4 @@
--- Clones of the keys that came so far are put.
+-- Clones of the keys so far are inserted.
 use Rattle.std.proofs.iter.Next as it
 use Rattle.std.specs.Iterator.{EndsFrom, items_left}
 use Rattle.std.specs.Prelude.{map}

@@ -11,7 +11,7 @@ learn_asks-requires g c = record {
       (λ s a r t i e. mut_next g.F.FnMut _ _ _ _ _ e.met.1.called refl i) _ c.requires.callable;
 }
 
--- the function that the closure borrows is the one that it was, and was asked of the keys
+-- the function that the closure borrows is the same one, and was called with the keys
 went : (g : _) (c : goal.After-f-1 g) → (c.f-1.given.0 ≡ c.retain_ref.new.f.0.now)
     × RetainsKeys g.K.PartialEq.eq g.F.FnMut c.args.f.now c.args.self.now c.retain_ref.new.self c.retain_ref.new.f.0.now
 went g c =

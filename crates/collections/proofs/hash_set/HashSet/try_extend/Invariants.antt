@@ -1,4 +1,4 @@
--- The keys that came so far are put.
+-- The keys so far are inserted.
 use Rattle.std.proofs.iter.Next as it
 use Rattle.std.specs.Iterator.{EndsFrom, items_left}
 use Rattle.collections.specs.Collecting.{InsertsEach, PutsKeys}

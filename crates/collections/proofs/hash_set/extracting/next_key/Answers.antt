@@ -12,7 +12,7 @@ learn_asks-requires g c = record {
       (λ s a r t i e. mut_next g.F.FnMut _ _ _ _ _ e.met.1.called refl i) _ c.requires.callable;
 }
 
--- the function that the closure borrows is the one that it was, and was asked of the keys
+-- the function that the closure borrows is the same one, and was called with the keys
 went : (g : _) (c : goal.After-test-1 g) → (c.test-1.given.0 ≡ c.extract_next.new.pick.0.now)
     × Extracts MAP (AsksKey g.F.FnMut) c.args.test.now c.args.taken.now c.extract_next.result c.extract_next.new.self
     c.extract_next.new.pick.0.now

@@ -13,7 +13,7 @@ use std::mem;
 impl<'a, K: Eq, V, H: KeyHash<K>, Q: KeyForm<K, H>> OccupiedEntryRef<'a, K, V, H, Q> {
     /// Returns the value under the key.
     ///
-    /// Moves nothing. O(1) expected. std: `OccupiedEntry::get`.
+    /// Moves no pairs. O(1) expected. std: `OccupiedEntry::get`.
     pub fn get(&self) -> &V
         ensures { get_by (Q.stands_for self.now.form) self.now.map.now ≡ Some result.now }
     {
@@ -26,9 +26,9 @@ impl<'a, K: Eq + Drop, V: Drop, H: KeyHash<K>, Q: KeyForm<K, H>> OccupiedEntryRe
     ghost use Rattle.collections.specs.EntryLoans.{LendsHeldRef};
 
     /// Returns a mutable reference to the value under the key. When the borrow ends, the key has
-    /// the value last written, and each other key its earlier value; the entry stays.
+    /// the value last written; the other keys keep theirs. The entry stays usable.
     ///
-    /// Moves nothing. O(1) expected. std: `OccupiedEntry::get_mut`.
+    /// Moves no pairs. O(1) expected. std: `OccupiedEntry::get_mut`.
     pub fn get_mut(&mut self) -> &mut V
         ensures* writes_back { sem 𝓛
             (LendsHeldRef K.row V.row H.row Q.row K.PartialEq H.KeyHash Q.KeyForm self.entry
@@ -45,7 +45,7 @@ impl<'a, K: Eq + Drop, V: Drop, H: KeyHash<K>, Q: KeyForm<K, H>> OccupiedEntryRe
     /// Calls a function with a mutable reference to the value under the key, and returns what the
     /// function returns.
     ///
-    /// Never fails. O(1) expected. Own.
+    /// Never fails. O(1) expected.
     pub fn update<R, F: FnOnce(&mut V) -> R>(&mut self, change: F) -> R
         requires callable { (value : MutBor V) → F.pre change value }
         ensures same_map { self.new.map.ghost_name ≡ self.old.map.ghost_name }
@@ -62,10 +62,9 @@ impl<'a, K: Eq + Drop, V: Drop, H: KeyHash<K>, Q: KeyForm<K, H>> OccupiedEntryRe
     }
 
     /// Returns a mutable reference to the value under the key, for as long as the map is borrowed.
-    /// When the borrow ends, the key has the value last written, and each other key its earlier
-    /// value.
+    /// When the borrow ends, the key has the value last written; the other keys keep theirs.
     ///
-    /// Moves nothing. O(1) expected. std: `OccupiedEntry::into_mut`.
+    /// Moves no pairs. O(1) expected. std: `OccupiedEntry::into_mut`.
     pub fn into_mut(self) -> &'a mut V
         ensures* writes_back { sem 𝓛
             (LendsThere K.row V.row H.row K.PartialEq H.KeyHash self.entry.map
@@ -80,7 +79,7 @@ impl<'a, K: Eq + Drop, V: Drop, H: KeyHash<K>, Q: KeyForm<K, H>> OccupiedEntryRe
         map.value_mut_hashed(hash, form)
     }
 
-    /// Writes the value under the key, and returns the earlier one; the map's own key stays.
+    /// Replaces the value under the key, and returns the earlier one; the map's own key stays.
     ///
     /// Never fails. O(1) expected. std: `OccupiedEntry::insert`.
     pub fn insert(&mut self, value: V) -> V

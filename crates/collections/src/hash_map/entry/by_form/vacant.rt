@@ -10,8 +10,8 @@ use std::alloc::{AllocFailed, Global};
 impl<'a, K: Eq + Drop, V: Drop, H: KeyHash<K>, Q: KeyForm<K, H>> VacantEntryRef<'a, K, V, H, Q> {
     ghost use Rattle.collections.specs.Loans.{LendsWanted};
 
-    /// Inserts a key for which the form stands with a value, and returns a mutable reference to
-    /// that value. When the borrow ends, the map has one pair more: the key with the value last
+    /// Inserts a key that the form stands for, with a value, and returns a mutable reference to
+    /// that value. When the borrow ends, the map has one more pair: the key with the value last
     /// written. The key isn't hashed again.
     ///
     /// # Errors
@@ -41,10 +41,9 @@ impl<'a, K: Eq + Drop, V: Drop, H: KeyHash<K>, Q: KeyForm<K, H>> VacantEntryRef<
 impl<'a, K: Eq + Drop, V: Drop, H: KeyHash<K>, Q: ToKey<K, H>> VacantEntryRef<'a, K, V, H, Q> {
     ghost use Rattle.collections.specs.Loans.{LendsMade};
 
-    /// Makes a key of the form, inserts it with a value, and returns a mutable reference to that
-    /// value. When the borrow ends, the map has one pair more: a key for which the form stands,
-    /// with the value last written. The key isn't hashed again, and takes its memory from the
-    /// allocator.
+    /// Makes a key from the form, inserts it with a value, and returns a mutable reference to that
+    /// value. When the borrow ends, the map has one more pair: a key that the form stands for, with
+    /// the value last written. The key isn't hashed again, and takes its memory from `alloc`.
     ///
     /// # Errors
     ///

@@ -14,9 +14,9 @@ impl<K: Eq, V, H: KeyHash<K>> HashMap<K, V, H> {
     ghost use Rattle.collections.specs.EntryRefs.{is_ref_occupied, ref_form, ref_map};
 
     /// Returns the entry of the keys that a form stands for, which is occupied exactly if the map
-    /// has one of them. No key is made.
+    /// contains one of them. No key is made.
     ///
-    /// Never fails, moves nothing, and takes no memory. O(1) expected. hashbrown:
+    /// Never fails, moves no pairs, and allocates nothing. O(1) expected. hashbrown:
     /// `HashMap::entry_ref`.
     pub fn entry_ref<Q: KeyForm<K, H>>(&mut self, key: Q) -> EntryRef<'_, K, V, H, Q>
         ensures form { ref_form result ≡ key }
@@ -44,8 +44,8 @@ impl<K: Eq, V, H: KeyHash<K>> HashMap<K, V, H> {
 impl<'a, K: Eq + Drop, V: Drop, H: KeyHash<K>, Q: KeyForm<K, H>> EntryRef<'a, K, V, H, Q> {
     ghost use Rattle.collections.specs.EntryRefs.{ModifiesRef, is_ref_occupied, ref_form, ref_map};
 
-    /// Calls a function with a mutable reference to the value under the key, if the map has one of
-    /// the keys. Returns the entry.
+    /// Calls a function with a mutable reference to the value under the key, if the map contains
+    /// one of the keys. Returns the entry.
     ///
     /// Never fails. O(1) expected. hashbrown: `EntryRef::and_modify`.
     pub fn and_modify<F: FnOnce(&mut V)>(self, change: F) -> EntryRef<'a, K, V, H, Q>
@@ -70,10 +70,10 @@ impl<'a, K: Eq + Drop, V: Drop, H: KeyHash<K>, Q: ToKey<K, H>> EntryRef<'a, K, V
     ghost use Rattle.collections.specs.EntryRefs.{is_ref_occupied, ref_form, ref_map};
     ghost use Rattle.collections.specs.Loans.{LendsPutWanted};
 
-    /// Returns a mutable reference to the value under the key; if the map has none of the keys, it
-    /// first makes one of the form and inserts it with the default. When the borrow ends, the key
-    /// has the value last written, and each other key its earlier value. If the map has one, no key
-    /// is made and the call never fails.
+    /// Returns a mutable reference to the value under the key; if the map contains none of the
+    /// keys, it first makes one from the form and inserts it with the default. When the borrow
+    /// ends, the key has the value last written; the other keys keep theirs. If the map contains
+    /// one, no key is made and the call never fails.
     ///
     /// # Errors
     ///
@@ -96,10 +96,11 @@ impl<'a, K: Eq + Drop, V: Drop, H: KeyHash<K>, Q: ToKey<K, H>> EntryRef<'a, K, V
         }
     }
 
-    /// Returns a mutable reference to the value under the key; if the map has none of the keys, it
-    /// first makes one of the form and inserts it with what the function makes. When the borrow
-    /// ends, the key has the value last written, and each other key its earlier value. If the map
-    /// has one, no key is made, the function isn't called, and the call never fails.
+    /// Returns a mutable reference to the value under the key; if the map contains none of the
+    /// keys, it first makes one from the form and inserts it with the value that the function
+    /// returns. When the borrow ends, the key has the value last written; the other keys keep
+    /// theirs. If the map contains one, no key is made, the function isn't called, and the call
+    /// never fails.
     ///
     /// # Errors
     ///
@@ -128,11 +129,11 @@ impl<'a, K: Eq + Drop, V: Drop, H: KeyHash<K>, Q: ToKey<K, H>> EntryRef<'a, K, V
         }
     }
 
-    /// Returns a mutable reference to the value under the key; if the map has none of the keys, it
-    /// first makes one of the form and inserts it with the default value. The default of a
-    /// collection or a `String` is the empty one, whose memory comes from the allocator. When the
-    /// borrow ends, the key has the value last written, and each other key its earlier value. If
-    /// the map has one, no key is made and the call never fails.
+    /// Returns a mutable reference to the value under the key; if the map contains none of the
+    /// keys, it first makes one from the form and inserts it with the default value. The default of
+    /// a collection or a `String` is the empty one, whose memory comes from the allocator. When the
+    /// borrow ends, the key has the value last written; the other keys keep theirs. If the map
+    /// contains one, no key is made and the call never fails.
     ///
     /// # Errors
     ///

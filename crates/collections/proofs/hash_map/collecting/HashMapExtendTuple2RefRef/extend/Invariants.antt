@@ -1,4 +1,4 @@
--- Copies of the pairs that came so far are put.
+-- Copies of the pairs so far are inserted.
 use Rattle.collections.specs.Collecting.{PutsAll, copied_pairs}
 use Rattle.collections.proofs.hash_map.collecting.HashMapExtendTuple2RefRef.extend.Given as goal
 

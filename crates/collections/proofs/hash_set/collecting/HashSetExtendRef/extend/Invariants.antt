@@ -1,4 +1,4 @@
--- Copies of the keys that came so far are put.
+-- Copies of the keys so far are inserted.
 use Rattle.std.specs.Prelude.{map}
 use Rattle.collections.specs.Collecting.{PutsKeys}
 use Rattle.collections.proofs.hash_set.collecting.HashSetExtendRef.extend.Given as goal
