@@ -1,14 +1,14 @@
 #!/usr/bin/env bash
-# What calls of bindings/ take with a million pairs: from C beside unordered_map and, where it is there,
-# GLib's GHashTable; from C++ beside that map and, where they are there, tsl::robin_map and
-# absl::flat_hash_map; from Rust beside std's map, hashed by SipHash and by a folded multiplication; from
-# Python beside dict, set and lru_cache. Prints the processor, its load, and the least of some rounds, in
-# nanoseconds. It asserts nothing: times depend on the machine.
+# Times calls of bindings/ on a million pairs, next to other containers: from C unordered_map and
+# GLib's GHashTable; from C++ unordered_map, tsl::robin_map and absl::flat_hash_map; from Rust std's map,
+# hashed by SipHash and by a folded multiplication; from Python dict, set and lru_cache. GHashTable and
+# the last two of C++ are left out if they aren't installed. Prints the processor, its load, and the
+# least time of some rounds, in nanoseconds. It asserts nothing: times depend on the machine.
 #
 # usage: bench/bindings.sh [ROUNDS]
 #
-# Needs rt and binutils, for the library. A language whose compiler (c++, cargo) or headers (python3-dev)
-# aren't there is left out.
+# Needs rt and binutils, for the library. A language is left out if its compiler (c++, cargo) or headers
+# (python3-dev) aren't installed.
 set -u
 
 bindings=$(dirname -- "$(readlink -f -- "${BASH_SOURCE[0]}")")/../bindings
@@ -20,7 +20,7 @@ trap 'rm -rf "$folder"' EXIT
 export BUCKET_LIB_DIR=$folder BUCKET_INCLUDE=$bindings CARGO_TARGET_DIR=$folder/target
 echo "$(sed -n 's/^model name[^:]*: //p' /proc/cpuinfo | head -n 1), load $(cut -d ' ' -f 1 /proc/loadavg)"
 
-# The libraries behind absl's map, where pkg-config knows them.
+# The flags for absl's map, if pkg-config knows it.
 absl=()
 if pkg-config --exists absl_flat_hash_map 2>/dev/null; then
     read -ra absl <<<"-DHAS_FLAT_HASH_MAP $(pkg-config --cflags --libs absl_flat_hash_map absl_hash)"

@@ -1,5 +1,5 @@
 #!/usr/bin/env bash
-# Prints how many lines a second the built program answers, and its peak memory.
+# Prints how many lines per second the built program answers, and its peak memory.
 # The input is a `new`, 32 puts and a million peeks. It asserts nothing.
 set -eu
 
@@ -16,10 +16,10 @@ awk -v peeks="$peeks" 'BEGIN {
     for (at = 0; at < peeks; at++) print "peek", (at * 7) % 40
 }' >"$folder/input"
 
-# Proves and builds the program where it has to be.
+# Proves and builds the program if needed.
 "$root/bhtable" --prove </dev/null
 
-# The peak is asked for while the program waits for the end of a pipe, all lines being answered.
+# The peak is read once all lines are answered, while the program waits for the end of the pipe.
 mkfifo "$folder/pipe"
 "$program" <"$folder/pipe" >"$folder/output" &
 process=$!
@@ -37,6 +37,6 @@ end=$(date +%s%N)
 
 awk -v lines="$lines" -v nanoseconds="$((end - start))" -v peak="$peak" 'BEGIN {
     seconds = nanoseconds / 1e9
-    printf "%d lines in %.3f s: %.1f million lines a second; peak memory %s\n",
+    printf "%d lines in %.3f s: %.1f million lines per second; peak memory %s\n",
         lines, seconds, lines / seconds / 1e6, peak
 }'

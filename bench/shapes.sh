@@ -1,21 +1,22 @@
 #!/usr/bin/env bash
-# Prints what programs pay that take pairs from one collection to another, or go through one in the
-# order of its slots: keys of one bucket then come one after the other. Beside the collections are,
-# where `rustc` is there, those of Rust's standard library, under the collections' default hash
-# ('same') and under std's own. Also printed are the longest insertion of a copy, calls that only
-# count, and collections of few pairs.
+# Prints the cost of moving pairs from one collection to another, and of going through one in the order
+# of its slots, in which the keys of one bucket follow each other. If `rustc` is installed, the same is
+# timed with the collections of Rust's standard library, under the collections' default hash ('same')
+# and under std's own ('default'). Also prints the longest insertion of a copy, calls that only count,
+# and collections of few pairs.
 #
-# A figure is a median. Where std has no such collection, as an index, its map stands beside. The
-# machine's load stands in the first line: other work beside it changes what a call costs. It
-# asserts nothing.
+# A figure is a median. If std has no such collection, as for an index, its map takes the place. The
+# first line is the machine's load: other work changes what a call costs. It asserts nothing.
 #
-# Called as `bench/shapes.sh [ROUNDS]`. Without a number there are 3 rounds. With PROGRAM=FILE in
-# the environment it runs that file, a build of crates/bench_table, and proves nothing.
+# usage: bench/shapes.sh [ROUNDS]      3 rounds by default
+#
+# With PROGRAM=FILE in the environment it runs that file, a build of crates/bench_table, and proves
+# nothing.
 set -eu
 root=$(dirname -- "$(dirname -- "$(readlink -f -- "${BASH_SOURCE[0]}")")")
 rounds=${1:-3}
 
-# Gives $folder, which goes at the end. The program is proved and built where it has to be.
+# This makes $folder, which is removed at the end. The program is proved and built if needed.
 source "$root/trials/lib/running.sh"
 if [ -n "${PROGRAM:-}" ]; then
     program=$PROGRAM
@@ -36,18 +37,18 @@ run() {
     esac
 }
 
-# Built by now, so that what is told is the load of other work, in the minute before.
+# Everything is built by now, so this is the load of other work, in the minute before.
 load=$(cut -d ' ' -f 1 /proc/loadavg)
 echo "load: $load"
 if awk -v load="$load" 'BEGIN { exit load <= 0.5 }'; then
-    echo "The load is above 0.5: times are those of a busy machine."
+    echo "The load is above 0.5: the times are those of a busy machine."
 fi
 
 jobs=({map,set,index,cache}\ {1000,8000,64000,512000} small\ 64000 longest\ 128000
     counts\ {1000,64000,1000000} crowd\ 10000)
 
-# A line for each figure: the column, the pairs, the nanoseconds a pair or call, the share of pairs
-# that are there at the end, and the shape.
+# A line per figure: the column, the pairs, the nanoseconds per pair or call, the share of pairs that
+# are left at the end, and the shape.
 for ((round = 0; round < rounds; round++)); do
     for job in "${jobs[@]}"; do
         read -r group pairs <<<"$job"
@@ -63,7 +64,7 @@ for ((round = 0; round < rounds; round++)); do
 done >"$folder/figures"
 sort -t "$(printf '\t')" -k3,3g "$folder/figures" >"$folder/sorted"
 
-# Reads the figures twice: as they came, for the order of the shapes, and by size.
+# Reads the figures twice: in the order in which they came, for the order of the shapes, and by size.
 awk -F '\t' -v columns="$columns" '
     NR == FNR { if (!seen[$5]++) shape[++shapes] = $5; next }
     {
@@ -105,7 +106,7 @@ awk -F '\t' -v columns="$columns" '
         kinds = split(columns, kind, " ")
         small = "insert 3|insert, remove|insert 1|3 pairs"
         sizes = split("1000 8000 64000 512000", size, " ")
-        head("ns a pair")
+        head("ns per pair")
         for (i = 1; i <= shapes; i++)
             if (shape[i] !~ small && shape[i] !~ /^(counts|crowd)|longest/)
                 line(shape[i], shape[i], 1)
@@ -114,11 +115,11 @@ awk -F '\t' -v columns="$columns" '
             text = text sprintf("%10s", sprintf("%.2f", 100 * left["here " size[s] " cache: loop"]))
         print text
         sizes = split("1000 64000 1000000", size, " ")
-        table("ns a call", "^counts", 1, 9)
+        table("ns per call", "^counts", 1, 9)
         sizes = split("10000", size, " ")
-        table("ns a call, 10000 keys of one hash", "^crowd", 1, 8)
+        table("ns per call, 10000 keys of one hash", "^crowd", 1, 8)
         sizes = split("64000", size, " ")
-        table("ns a round, of few pairs", small, 1, 1)
+        table("ns per round, few pairs", small, 1, 1)
         sizes = split("128000", size, " ")
         table("us, in a copy of 128000 pairs", "longest", 1000, 1)
     }' "$folder/figures" "$folder/sorted"

@@ -1,14 +1,15 @@
 #!/usr/bin/env bash
-# Prints what calls cost on a table that grew from nothing, on the `HashMap` of the collections over
-# it, on the kit's and, where `rustc` is there, on that of Rust's standard library: one hash, the
-# same keys, the maps in turn in each round. A figure is a median, with the least and the greatest;
-# ratios are of medians. The machine's load stands in the first line: other work beside it changes
-# what a call costs. It asserts nothing. A cache of the collections stands beside the kit's `lru`,
-# which evicts the least recently used pair of all.
+# Prints the cost of calls on a table that grew from nothing, on the `HashMap` of the collections over
+# it, on the kit's and, if `rustc` is installed, on that of Rust's standard library. All use the same
+# hash function and the same keys, and take turns in each round. A figure is a median, with the least
+# and the greatest; ratios are of medians. A cache of the collections is compared with the kit's `lru`,
+# which evicts the least recently used pair of all. The first line is the machine's load: other work
+# changes what a call costs. It asserts nothing.
 #
-# Called as `bench/tables.sh [-i] [-p] [ROUNDS]`. With -i it prints instructions a call as well,
-# where `valgrind` is there. With -p it draws docs/calls.svg and docs/insertions.svg anew, by
-# `gnuplot`, from more sizes. Without a number there are 5 rounds.
+# usage: bench/tables.sh [-i] [-p] [ROUNDS]      5 rounds by default
+#
+# With -i it also prints instructions per call, which takes `valgrind`. With -p it redraws docs/calls.svg
+# and docs/insertions.svg with `gnuplot`, from more sizes.
 set -eu
 root=$(dirname -- "$(dirname -- "$(readlink -f -- "${BASH_SOURCE[0]}")")")
 
@@ -18,14 +19,14 @@ while [[ ${1:-} == -* ]]; do
     case $1 in
         -i) with_instructions=yes ;;
         -p) with_pictures=yes ;;
-        *) echo "bench/tables.sh: no option $1" >&2 && exit 2 ;;
+        *) echo "bench/tables.sh: unknown option $1" >&2 && exit 2 ;;
     esac
     shift
 done
 rounds=${1:-5}
 
-# Gives $folder, which goes at the end. The program of the table and of the kit's map is proved and
-# built where it has to be.
+# This makes $folder, which is removed at the end. The program of the table and of the kit's map is
+# proved and built if needed.
 source "$root/trials/lib/running.sh"
 prepare bench_table
 maps="table collections kit"
@@ -34,7 +35,7 @@ if command -v rustc >/dev/null; then
     maps="table collections kit std"
 fi
 
-# run MAP COURSE PAIRS, with a command in front where there are more words: runs a course.
+# run MAP COURSE PAIRS [COMMAND..]: runs a course, under the command if there is one.
 run() {
     case $1 in
         table | collections | cache | lru) "${@:4}" "$program" "$1" "$2" "$3" ;;
@@ -43,11 +44,11 @@ run() {
     esac
 }
 
-# Built by now, so that what is told is the load of other work, in the minute before.
+# Everything is built by now, so this is the load of other work, in the minute before.
 load=$(cut -d ' ' -f 1 /proc/loadavg)
 echo "load: $load"
 if awk -v load="$load" 'BEGIN { exit load <= 0.5 }'; then
-    echo "The load is above 0.5: times are those of a busy machine."
+    echo "The load is above 0.5: the times are those of a busy machine."
 fi
 
 jobs=({calls,large,single}\ {1000,64000,1000000} {calls,single}\ 4000000)
@@ -55,8 +56,8 @@ if [ -n "$with_pictures" ]; then
     jobs+=(calls\ {4000,16000,256000})
 fi
 
-# A line for each figure: pairs, its name, the map, and the figure a call. Of the bytes the first of
-# a run counts, since later ones are memory that the run had before.
+# A line per figure: the pairs, its name, the map, and the figure per call. Of the bytes only a run's
+# first figure counts, since later ones reuse memory that the run already had.
 for ((round = 0; round < rounds; round++)); do
     for job in "${jobs[@]}"; do
         read -r course pairs <<<"$job"
@@ -125,10 +126,10 @@ awk -v maps="$maps" '
             line(sizes[s], "miss", "  miss, ns", 1)
             line(sizes[s], "churn", "  remove one, insert one, ns", 1)
             line(sizes[s], "remove", "  remove, ns", 1)
-            line(sizes[s], "walk", "  walk, ns a pair", 1)
-            line(sizes[s], "iter", "  iterator, ns a pair", 1)
-            line(sizes[s], "sweep", "  sweep or retain, ns a pair", 1)
-            line(sizes[s], "bytes", "  bytes a pair", 1)
+            line(sizes[s], "walk", "  walk, ns per pair", 1)
+            line(sizes[s], "iter", "  iterator, ns per pair", 1)
+            line(sizes[s], "sweep", "  sweep or retain, ns per pair", 1)
+            line(sizes[s], "bytes", "  bytes per pair", 1)
             line(sizes[s], "longest", "  longest insertion, us", 1000)
             line(sizes[s], "rarely", "  99.99th percentile of these, us", 1000)
         }
@@ -148,7 +149,7 @@ echo
 # Instructions, counted over 64 maps of 1,000 pairs; insertions are counted twice on each.
 if [ -n "$with_instructions" ] && command -v valgrind >/dev/null; then
     echo
-    echo "instructions a call, or a pair, at 1000 pairs"
+    echo "instructions per call, or per pair, at 1000 pairs"
     for map in $maps; do
         run "$map" calls 1000 valgrind --tool=callgrind --callgrind-out-file="$folder/calls" \
             >/dev/null 2>&1
@@ -171,7 +172,7 @@ if [ -n "$with_instructions" ] && command -v valgrind >/dev/null; then
     done
 fi
 
-# The pictures: medians over the sizes, and the slowest insertions on the way to 4,000,000 pairs.
+# The pictures: medians by size, and the slowest insertions on the way to 4,000,000 pairs.
 if [ -n "$with_pictures" ]; then
     awk -v folder="$folder" '
         {

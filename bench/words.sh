@@ -1,10 +1,10 @@
 #!/usr/bin/env bash
 # Prints how long crates/example_word_count takes to count the lines of a file, and how long
-# `sort | uniq -c | sort -rn` takes, in turn in each round: a median, with the least and the
-# greatest, in milliseconds. The file has 1,000,000 lines of 100,000 words, some far more often than
+# `sort | uniq -c | sort -rn` takes: a median, with the least and the greatest, in milliseconds. The two
+# take turns in each round. The file has 1,000,000 lines of 100,000 words, some far more frequent than
 # others. It asserts only that both print the same counts and lines.
 #
-# Called as `bench/words.sh [ROUNDS]`. Without a number there are 5 rounds.
+# usage: bench/words.sh [ROUNDS]      5 rounds by default
 set -eu
 export LC_ALL=C
 root=$(dirname -- "$(dirname -- "$(readlink -f -- "${BASH_SOURCE[0]}")")")
@@ -13,14 +13,14 @@ rounds=${1:-5}
 folder=$(mktemp -d)
 trap 'rm -r "$folder"' EXIT
 
-# The program is proved and built where it has to be.
+# The program is proved and built if needed.
 if ! (cd "$root/crates/example_word_count" && rt run) >"$folder/log" 2>&1; then
     cat "$folder/log" >&2
     exit 1
 fi
 program=$root/crates/example_word_count/out/example_word_count
 
-# The square of a number drawn evenly from 0 to 1 is often small: words of low numbers come often.
+# The square of a uniform random number from 0 to 1 is often small, so words of low numbers are frequent.
 awk 'BEGIN {
     srand(1)
     for (line = 0; line < 1000000; line++) {
@@ -37,7 +37,7 @@ count_by_sort() {
     sort "$folder/words" | uniq -c | sort -rn >"$folder/sorted"
 }
 
-# Milliseconds of a command.
+# Prints how many milliseconds a command takes.
 timed() {
     local begun
     begun=$(date +%s%N)
@@ -51,7 +51,7 @@ for ((round = 0; round < rounds; round++)); do
     done
 done >"$folder/times"
 
-# The same counts and lines, in whatever order lines of one count come.
+# Both print the same counts and lines; lines of one count may come in any order.
 diff <(sort "$folder/table") <(sed 's/^ *//' "$folder/sorted" | sort) >"$folder/log" ||
     { echo "bench/words.sh: the two disagree" >&2 && exit 1; }
 

@@ -1,14 +1,14 @@
 #!/usr/bin/env bash
-# Links the proved library of bindings/ to programs of C, C++, Rust and Python, and runs them: each
-# call with each code; every allocation refused in turn, and what is held then; under valgrind, that
-# nothing is read or written that isn't allocated, and all is freed. The header names what is exported,
-# compiles without a warning, lets no null pointer through, refuses a machine of 32 bits and warns of a
-# code that is dropped. Then the tests of bucket.hpp, of the Rust crate and of the Python module, by
-# `cpp/test`, `rust/test` and `python/test` of bindings/: the heads of these tell what they try.
+# Links the proved library of bindings/ to programs in C, C++, Rust and Python, and runs them: each call
+# with each code; each allocation failing in turn, and the pairs that are left; under valgrind, that only
+# allocated memory is read or written, and all of it is freed. The header must declare what is exported,
+# compile without a warning, let no null pointer through, reject a 32-bit machine, and warn about a
+# dropped code. Then it runs the tests of bucket.hpp, of the Rust crate and of the Python module, which are
+# `cpp/test`, `rust/test` and `python/test` in bindings/; their heads say what they test.
 #
-# Needs rt, binutils, python3 and a C compiler cc on the PATH. A language whose compiler (c++, cargo) or
-# valgrind isn't there is left out, and a line says so. Ends with status 0 where all was right, else
-# with 1.
+# Needs rt, binutils, python3 and a C compiler cc on the PATH. A language whose compiler (c++, cargo) isn't
+# installed is left out, and so is valgrind, and a line says so. The exit status is 0 if all tests passed,
+# otherwise 1.
 set -u
 source "$(dirname "${BASH_SOURCE[0]}")/lib/running.sh"
 sources=$root/trials/lib/bindings
@@ -16,39 +16,40 @@ bindings=$root/bindings
 source "$bindings/lib/libraries.sh"
 need_rt
 
-"$bindings/build" "$folder" >"$folder/log" 2>&1 || fail "the library isn't built"
+"$bindings/build" "$folder" >"$folder/log" 2>&1 || fail "the library could not be built"
 
-# A program of the library links, and ends with status 0 and a line.
+# run COMMAND..: runs a program. It must end with status 0; its output is printed.
 run() {
     "$@" >"$folder/output" 2>"$folder/log" || fail "$1 ended with status $?"
     cat "$folder/output"
 }
 
-# The header compiles by a standard without a warning.
+# is_clean COMPILER STANDARD LANGUAGE OPTION..: the header compiles under a standard without a warning.
 is_clean() {
     printf '#include "bucket.h"\nextern bucket_handle ages;\nbucket_handle ages = BUCKET_HANDLE;\n' >"$folder/header.c"
     "$1" "-std=$2" -Wall -Wextra -Wpedantic -Werror "${@:4}" "-I$bindings" -fsyntax-only -x "$3" "$folder/header.c" \
-        2>"$folder/log" || fail "the header doesn't compile by $2"
+        2>"$folder/log" || fail "the header doesn't compile with $2"
 }
 
-# The calls that answer no code.
+# The calls that don't return a code.
 no_code='bucket_free\|bucket_len\|bucket_capacity\|bucket_version'
 
-# A dropped code warns, at each of the calls that answer one; left out where the compiler has no such warning.
+# warns COMPILER STANDARD LANGUAGE: dropping a code causes a warning, for each call that returns one. Left
+# out if the compiler has no such warning.
 warns() {
     echo '__attribute__((warn_unused_result)) int call(void); void drop(void); void drop(void) { call(); }' >"$folder/known.c"
     if "$1" "-std=$2" -x "$3" -c "$folder/known.c" -o "$folder/dropped" -Werror=unused-result 2>"$folder/log"; then
-        echo "left out: a dropped code by $2, since $1 warns of none"
+        echo "left out: dropped codes with $2, since $1 doesn't warn about any"
         return
     fi
     "$1" "-std=$2" "-I$bindings" -x "$3" -c "$sources/dropped.c" -o "$folder/dropped" -Werror=unused-result 2>"$folder/log" &&
-        fail "a dropped code compiles by $2"
+        fail "a dropped code compiles with $2"
     "$1" "-std=$2" "-I$bindings" -x "$3" -c "$sources/dropped.c" -o "$folder/dropped" 2>"$folder/log"
     [ "$(grep -c 'unused-result\]' "$folder/log")" = "$(grep -vcx "$no_code" "$folder/named")" ] ||
-        fail "not each dropped code warns by $2"
+        fail "$2 doesn't warn about each dropped code"
 }
 
-# The header names what the library exports, and no more but its own guards and readings.
+# The header declares exactly what the library exports, besides its own guards and readings.
 nm -g --defined-only "$folder/libbucket.so" | sed -n 's/^.* T \(bucket_[a-z_]*\)$/\1/p' | LC_ALL=C sort >"$folder/exported"
 grep -o '\bbucket_[a-z_]*(' "$bindings/bucket.h" | tr -d '(' | grep -v '^bucket_guarded_' | sort -u >"$folder/named"
 declared "$bindings/bucket.h" >"$folder/declared"
@@ -61,26 +62,26 @@ done
 warns cc c11 c
 if echo '#include <stdint.h>' | cc -m32 -ffreestanding -fsyntax-only -x c - 2>"$folder/log"; then
     echo '#include "bucket.h"' | cc -m32 -ffreestanding "-I$bindings" -fsyntax-only -x c - 2>"$folder/log"
-    grep -q 'error.*64.bits' "$folder/log" || fail "the header doesn't refuse a machine of 32 bits"
+    grep -q 'error.*64.bits' "$folder/log" || fail "the header doesn't reject a 32-bit machine"
 else
-    echo "left out: a machine of 32 bits, since cc compiles for none"
+    echo "left out: a 32-bit machine, since cc doesn't compile for one"
 fi
-echo "the header compiles without a warning, and a code that is dropped warns"
+echo "the header compiles without a warning, and a dropped code causes one"
 
-# The programs below end with 1 where a null pointer comes to the library.
+# The programs below exit with 1 if a null pointer reaches the library.
 strict=(-O2 -Wall -Wextra -Werror "-I$bindings")
 mapfile -t watches < <(sed -n 's/^WATCH(\([a-z_]*\),.*/-Wl,--wrap=\1/p' "$sources/no_null.c")
-cc -std=c11 "${strict[@]}" -c "$sources/no_null.c" -o "$folder/no_null.o" 2>"$folder/log" || fail "no C compiles"
+cc -std=c11 "${strict[@]}" -c "$sources/no_null.c" -o "$folder/no_null.o" 2>"$folder/log" || fail "no_null.c doesn't compile"
 watched=("$folder/no_null.o" "$folder/libbucket.a" "${watches[@]}")
-cc -std=c11 "${strict[@]}" "$sources/calls.c" "${watched[@]}" -o "$folder/calls" 2>"$folder/log" || fail "no C links"
+cc -std=c11 "${strict[@]}" "$sources/calls.c" "${watched[@]}" -o "$folder/calls" 2>"$folder/log" || fail "a C program doesn't build"
 run "$folder/calls"
-cc -std=c11 "${strict[@]}" "$sources/more_calls.c" "${watched[@]}" -o "$folder/more_calls" 2>"$folder/log" || fail "no C links"
+cc -std=c11 "${strict[@]}" "$sources/more_calls.c" "${watched[@]}" -o "$folder/more_calls" 2>"$folder/log" || fail "a C program doesn't build"
 run "$folder/more_calls"
-cc -std=c11 "${strict[@]}" "$sources/reading.c" "${watched[@]}" -o "$folder/reading" 2>"$folder/log" || fail "no C links"
+cc -std=c11 "${strict[@]}" "$sources/reading.c" "${watched[@]}" -o "$folder/reading" 2>"$folder/log" || fail "a C program doesn't build"
 run "$folder/reading"
 wraps=-Wl,--wrap=malloc,--wrap=realloc,--wrap=free
 cc -std=c11 "${strict[@]}" "$sources/refused.c" "$folder/libbucket.a" "$wraps" -o "$folder/refused" 2>"$folder/log" ||
-    fail "no C links"
+    fail "a C program doesn't build"
 run "$folder/refused"
 
 if is_there c++ "C++"; then
@@ -91,25 +92,25 @@ if is_there c++ "C++"; then
     warns c++ c++11 c++
     warns c++ c++17 c++
     c++ -std=c++11 "${strict[@]}" -x c++ "$sources/calls.c" -x none "${watched[@]}" -o "$folder/calls++" \
-        2>"$folder/log" || fail "no C++ links"
+        2>"$folder/log" || fail "a C++ program doesn't build"
     run "$folder/calls++"
     c++ -std=c++11 "${strict[@]}" -x c++ "$sources/more_calls.c" -x none "${watched[@]}" -o "$folder/more_calls++" \
-        2>"$folder/log" || fail "no C++ links"
+        2>"$folder/log" || fail "a C++ program doesn't build"
     run "$folder/more_calls++"
     c++ -std=c++11 "${strict[@]}" -x c++ "$sources/reading.c" -x none "${watched[@]}" -o "$folder/reading++" \
-        2>"$folder/log" || fail "no C++ links"
+        2>"$folder/log" || fail "a C++ program doesn't build"
     run "$folder/reading++"
 fi
 
-if is_there valgrind "the memory of C"; then
+if is_there valgrind "C under valgrind"; then
     for calls in calls more_calls reading; do
         valgrind -q --error-exitcode=9 --leak-check=full "$folder/$calls" >"$folder/output" 2>"$folder/log" ||
-            fail "valgrind finds an error or a leak"
+            fail "valgrind reports an error or a leak"
     done
-    echo "valgrind finds no error and no leak"
+    echo "valgrind reports no error and no leak"
 fi
 
-# The tests of the three wrappers, each by one command of its own.
+# The tests of the three wrappers, each with its own command.
 export BUCKET_LIB_DIR=$folder BUCKET_INCLUDE=$bindings
 if is_there c++ "bucket.hpp"; then
     run "$bindings/cpp/test"

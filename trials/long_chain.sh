@@ -1,19 +1,19 @@
 #!/usr/bin/env bash
-# Runs crates/trial_long_chain on a stack of 64 KiB, as LLVM builds it and as Rattle's own compiler does:
-# 100,000 blocks of a bucket's chain go at once, and 8,032 pairs of one hash come and go.
+# Runs crates/trial_long_chain on a stack of 64 KiB, built by LLVM and by Rattle's own compiler: 100,000
+# blocks of a bucket's chain are dropped at once, and 8,032 pairs with one hash are put and removed.
 #
-# Needs rt on the PATH. Ends with status 0 where both runs wrote what the crate's file stdout has,
-# else with 1.
+# Needs rt on the PATH. The exit status is 0 if both runs wrote what is in the crate's file stdout,
+# otherwise 1.
 set -u
 source "$(dirname "${BASH_SOURCE[0]}")/lib/running.sh"
 prepare trial_long_chain
 prepare_by_rattle
 
-# The size of the stack in KiB, and the most seconds that a run takes.
+# The size of the stack in KiB, and the most seconds that a run may take.
 stack=64
 seconds=120
 
-# The environment stands on the stack too, so it is left out.
+# The environment takes space on the stack too, so it is empty.
 count=0
 for build in "$program" "$program.by-rattle"; do
     begun=$(date +%s%N)
@@ -24,7 +24,7 @@ for build in "$program" "$program.by-rattle"; do
     if [ "$status" != 0 ]; then
         fail "$name ended with status $status on a stack of $stack KiB"
     fi
-    diff "$crate/stdout" "$folder/output" >"$folder/log" || fail "wanted (<) and found (>) differ"
+    diff "$crate/stdout" "$folder/output" >"$folder/log" || fail "expected (<) and found (>) differ"
     echo "$name: $(wc -l <"$folder/output") lines in $((($(date +%s%N) - begun) / 1000000)) ms"
     count=$((count + 1))
 done

@@ -1,9 +1,9 @@
 #!/usr/bin/env bash
-# Runs the program on 5,000 inputs made by chance out of words, numbers at the edges, odd bytes,
-# blanks, long lines, carriage returns and missing newlines. A plain reader of lines says which line
-# is the first that can't be read, and a plain map takes the replies to those before.
+# Runs the program on 5,000 random inputs of words, numbers at the edges, odd bytes, blanks, long lines,
+# carriage returns and missing newlines. A plain reader of lines determines the first invalid line, and
+# a plain map checks the replies to those before.
 #
-# Needs rt and python3 on the PATH. Ends with status 0 where every run was right, else with 1.
+# Needs rt and python3 on the PATH. The exit status is 0 if every run was right, otherwise 1.
 set -u
 source "$(dirname "${BASH_SOURCE[0]}")/lib/running.sh"
 prepare bhtable

@@ -1,8 +1,8 @@
 #!/usr/bin/env bash
-# Runs the program on a map of 8,032 keys of one hash: they are put and removed in reverse, and put
-# and relocated whole. Each reply is compared, and each run has to end within 20 seconds.
+# Runs the program on a map of 8,032 keys with one hash: once they are put and removed in reverse, and
+# once put and relocated together. Each reply is compared, and each run must end within 20 seconds.
 #
-# Needs rt and python3 on the PATH. Ends with status 0 where every reply was right, else with 1.
+# Needs rt and python3 on the PATH. The exit status is 0 if every reply was right, otherwise 1.
 set -u
 source "$(dirname "${BASH_SOURCE[0]}")/lib/running.sh"
 prepare bhtable
@@ -16,4 +16,4 @@ for lines in "$folder"/*.lines; do
     echo "$name: $(wc -l <"$lines") lines in $((($(date +%s%N) - begun) / 1000000)) ms"
     count=$((count + 1))
 done
-echo "$count scripts on 8032 keys of one hash"
+echo "$count scripts on 8032 keys with one hash"

@@ -1,9 +1,9 @@
 #!/usr/bin/env bash
-# Runs the program on caches that grow and shrink while requests for memory are refused by chance,
-# with other lines and refusals in each run. A plain model keeps the order of use of each bucket and
-# names the pair of each eviction: see lib/refused_evictions.py.
+# Runs the program on caches that grow and shrink while random allocations fail, with other lines and
+# failures in each run. A plain model keeps the LRU order of each bucket and predicts the pair of each
+# eviction: see lib/refused_evictions.py.
 #
-# Needs rt, python3 and cc on the PATH. Ends with status 0 where every run was right, else with 1.
+# Needs rt, python3 and cc on the PATH. The exit status is 0 if every run was right, otherwise 1.
 set -u
 source "$(dirname "${BASH_SOURCE[0]}")/lib/refusing.sh"
 prepare_refusing bhtable

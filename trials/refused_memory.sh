@@ -1,17 +1,17 @@
 #!/usr/bin/env bash
-# Runs crates/trial_refused_memory with one request for memory refused after another, a request a run, and
-# at last with none. The program judges each run itself: see the head of its main.rt.
+# Runs crates/trial_refused_memory with each allocation failing in turn, one in each run, and at last with
+# none failing. The program judges each run itself: see the head of its main.rt.
 #
-# Digests aren't needed: a refusal of theirs, and of no other memory, must leave a run done. An array
-# asks for them in two requests, one after the other, for 4 and for 32 bytes a bucket.
+# Digests aren't needed: a run must be `done` if the allocation that failed is one of digests, and only
+# then. An array allocates its digests in two steps, one after the other, of 4 and of 32 bytes per bucket.
 #
-# Needs rt on the PATH. Ends with status 0 where every run was right, else with 1.
+# Needs rt on the PATH. The exit status is 0 if every run was right, otherwise 1.
 set -u
 source "$(dirname "${BASH_SOURCE[0]}")/lib/refusing.sh"
 prepare_refusing trial_refused_memory
 
-# The numbers of these requests, each with a space on both sides; where nothing can be preloaded, none
-# can be told.
+# The numbers of the allocations of digests, each with a space on both sides. They are unknown if refuse.c
+# can't be preloaded.
 digests=
 if [ -n "$shim" ]; then
     ASKED_BYTES=1 run_refusing "$most" </dev/null
@@ -36,24 +36,24 @@ for ((request = 1; request <= most; request++)); do
     outcome=$(cat "$folder/output")
     case "$outcome, status $status" in
         "done, status 0") [ "$is_refused" = 1 ] || break
-            is_of_digests "$request" || fail "request $request refused, which isn't for digests: $outcome"
+            is_of_digests "$request" || fail "allocation $request failed, which isn't for digests: $outcome"
             unneeded=$((unneeded + 1))
             continue
             ;;
         "as before, status 10") as_before=$((as_before + 1)) ;;
         "not resized, status 13") not_resized=$((not_resized + 1)) ;;
         "not moved, status 14") not_moved=$((not_moved + 1)) ;;
-        *) fail "request $request refused: $outcome, status $status" ;;
+        *) fail "allocation $request failed: $outcome, status $status" ;;
     esac
-    [ -z "$shim" ] || ! is_of_digests "$request" || fail "request $request refused, for digests: $outcome"
-    [ "$is_refused" = 1 ] || fail "request $request: not refused, and the run was $outcome"
+    [ -z "$shim" ] || ! is_of_digests "$request" || fail "allocation $request failed, which is for digests: $outcome"
+    [ "$is_refused" = 1 ] || fail "allocation $request didn't fail, and yet the run was $outcome"
 done
 
 if ((request > most)); then
     fail "no run was done"
 fi
 if ((as_before == 0 || not_resized == 0 || not_moved == 0 || unneeded == 0)); then
-    fail "no refusal reached a call, or none a resize, or none a look-up's move, or none a digest's memory"
+    fail "no failure was in a call, or none in a resize, in a look-up's move, or in a digest"
 fi
 counts="$as_before as before, $not_resized not resized, $not_moved not moved, $unneeded done without digests"
-echo "$((request - 1)) requests refused: $counts, then done"
+echo "$((request - 1)) allocations failed: $counts, then done"

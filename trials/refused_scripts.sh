@@ -1,9 +1,9 @@
 #!/usr/bin/env bash
-# Runs the program on scripts that grow and shrink tables, hand out tickets, evict and mark, with
-# one request for memory refused after another, a request a run, and at last with none. A plain map
-# beside each run takes the replies, and each key is looked for at the end: see lib/beside.py.
+# Runs the program on scripts that grow and shrink tables, issue tickets, evict and make tombstones, with
+# each allocation failing in turn, one in each run, and at last with none failing. A plain map checks
+# the replies of each run, and each key is looked up at the end: see lib/beside.py.
 #
-# Needs rt and python3 on the PATH. Ends with status 0 where every run was right, else with 1.
+# Needs rt and python3 on the PATH. The exit status is 0 if every run was right, otherwise 1.
 set -u
 source "$(dirname "${BASH_SOURCE[0]}")/lib/refusing.sh"
 prepare_refusing bhtable

@@ -1,11 +1,10 @@
 #!/usr/bin/env bash
-# Runs the program on 20,000 lines by chance that raise and lower the minimum while tables of each
-# kind grow and shrink, with every 23rd request for memory refused, a request a run, and at last
-# with none. A plain map beside each run takes the replies, and each number of slots has to be the
-# one that the plan of a resize makes, or where a request for it was refused the one before: see
-# lib/arrays.py.
+# Runs the program on 20,000 random lines that raise and lower the minimum while tables of each kind grow
+# and shrink, with every 23rd allocation failing, one in each run, and at last with none failing. A plain
+# map checks the replies of each run. Each number of slots must be the one of the resize plan, or, if an
+# allocation for that failed, the one before: see lib/arrays.py.
 #
-# Needs rt and python3 on the PATH. Ends with status 0 where every run was right, else with 1.
+# Needs rt and python3 on the PATH. The exit status is 0 if every run was right, otherwise 1.
 set -u
 source "$(dirname "${BASH_SOURCE[0]}")/lib/refusing.sh"
 prepare_refusing bhtable

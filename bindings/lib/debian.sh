@@ -4,11 +4,11 @@
 
 make_debian() {
     command -v dpkg-deb >/dev/null || {
-        leave_out "the Debian package" "dpkg-deb isn't there"
+        leave_out "the Debian package" "dpkg-deb isn't installed"
         return
     }
     [ -n "$(maintainer)" ] || {
-        leave_out "the Debian package" "neither DEBFULLNAME and DEBEMAIL nor a commit names who keeps it"
+        leave_out "the Debian package" "neither DEBFULLNAME and DEBEMAIL nor a commit names a maintainer"
         return
     }
     local tree=$parts/debian libdir=lib/x86_64-linux-gnu docs
@@ -54,10 +54,10 @@ Section: libdevel
 Priority: optional
 Description: proved hash maps, sets and caches for C and C++
  Maps, sets and caches from integers and byte strings, whose calls are
- proved to do what the header says, also where memory runs out.
+ proved to do what the header says, even if memory runs out.
  .
  The package has the headers for C and C++, the shared and the static library,
- and what pkg-config and CMake read.
+ and files for pkg-config and CMake.
 END
 }
 
@@ -71,11 +71,11 @@ Copyright: $(date -d "@$SOURCE_DATE_EPOCH" +%Y) the authors of bucket_table
 License: Apache-2.0
  On Debian systems the text of the Apache License, version 2.0, is the file
  /usr/share/common-licenses/Apache-2.0.
-Comment: The file NOTICE beside this one says what the library is a port of.
+Comment: The file NOTICE next to this one says what the library is a port of.
 END
 }
 
-# The entries of the version in CHANGELOG.
+# The entries of this version in CHANGELOG.
 debian_changelog() {
     printf 'bucket (%s) unstable; urgency=medium\n\n' "$version"
     awk '/^## / { inside = ++found == 1; next } inside && /^- / { print }' "$root/CHANGELOG.md" |

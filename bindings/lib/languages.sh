@@ -1,11 +1,11 @@
 # For bindings/release to source.
 #
-#   make_crate    makes the crate of bindings/rust with the static library inside
+#   make_crate    makes the crate of bindings/rust, which includes the static library
 #   make_wheel    makes the wheel of bindings/python
 
 make_crate() {
     command -v cargo >/dev/null || {
-        leave_out "the crate" "cargo isn't there"
+        leave_out "the crate" "cargo isn't installed"
         return
     }
     local stage=$parts/crate
@@ -14,7 +14,7 @@ make_crate() {
     install -m 644 -D -t "$stage/lib/x86_64-unknown-linux-gnu" "$libraries/libbucket.a"
     cp "$here/bucket.h" "$root/LICENSE" "$root/NOTICE" "$stage"
     [ -f "$stage/README.md" ] || cp "$here/README.md" "$stage"
-    # cargo packs the executable bits, and reads no other crate's folder above.
+    # cargo packs the executable bits. The stage is outside the checkout, so it finds no other crate above.
     find "$stage" -type f -exec chmod 644 {} +
     (
         cd "$stage"
@@ -25,10 +25,10 @@ make_crate() {
     cp "$parts/target/package/bucket-$version.crate" "$dist"
 }
 
-# Without paths of this machine in the module.
+# The module must contain no path of this machine.
 make_wheel() {
     command -v python3 >/dev/null || {
-        leave_out "the wheel" "python3 isn't there"
+        leave_out "the wheel" "python3 isn't installed"
         return
     }
     [ -f "$(python3 -c 'import sysconfig; print(sysconfig.get_paths()["include"])')/Python.h" ] || {

@@ -4,7 +4,7 @@
 
 lay_out() {
     local prefix=$1 libdir=$1/$2 up
-    # From LIBDIR to the prefix.
+    # The relative path from LIBDIR to the prefix.
     up=$(sed 's|[^/][^/]*|..|g' <<<"$2")
     install -m 644 -D -t "$prefix/include" "$here"/bucket.{h,hpp}
     install -m 644 -D -t "$libdir" "$libraries/libbucket.a"

@@ -73,13 +73,13 @@ link_libraries() {
     return "$status"
 }
 
-# check_exported NAMES LIBRARY..: each library has to export these names, and no other.
+# check_exported NAMES LIBRARY..: each library must export exactly these names.
 check_exported() {
     local names=$1 library
     shift
     for library in "$@"; do
         exported "$library" | diff "$names" - >&2 || {
-            echo "bindings/${0##*/}: bucket.h declares (<), and ${library##*/} exports (>), what the other doesn't" >&2
+            echo "bindings/${0##*/}: the names that bucket.h declares (<) and ${library##*/} exports (>) differ" >&2
             return 1
         }
     done

@@ -42,7 +42,7 @@ def of_kit(line):
         "versionInfo": line,
         "downloadLocation": "NOASSERTION",
         "filesAnalyzed": False,
-        "comment": "It proved and compiled the library, which has its heap calls.",
+        "comment": "It proved and compiled the library, which contains its heap calls.",
         "licenseDeclared": "NOASSERTION",
         **LICENCE,
         "licenseConcluded": "NOASSERTION",

@@ -1,14 +1,14 @@
-"""The arrays of a table beside its map: the slots of the current one, and the units of an old one.
+"""A model of a table's arrays: the slots of the current one, and the units of an old one.
 
-Resizes come from the numbers of pairs in some buckets, and only while no old array stands. Each
-pair is in its home then, so that the map alone has these numbers. Beside an old array, buckets move
-and tickets are handed out by rules that ask of a pair only whether its move takes memory. So until
-a request is refused each line leaves one state, and any reply on slots, on the rehash word and on
-tickets is judged by it, whether an old array stands or not.
+A resize depends only on the numbers of pairs in some buckets, and happens only while there is no old
+array. Then each pair is in its home, so the map alone determines these numbers. During a rehash, the
+rules by which buckets move and tickets are issued ask of a pair only whether moving it allocates. So
+as long as no allocation has failed, each line leaves one state, and that judges every reply about
+slots, the rehash word and tickets.
 
-Which request was refused is untold: where one may have been, the arrays have one state more. A
-resize that was refused leaves the slots as they were; a unit or a bucket that was refused leaves
-the old array. A reply that fits none of the states is wrong.
+The replies don't say which allocation failed: if one may have, the arrays have one more state. A
+resize that failed leaves the slots as they were; a unit or a bucket whose move failed stays in the
+old array. A reply that fits none of the states is wrong.
 """
 
 from typing import NamedTuple
@@ -22,7 +22,7 @@ FULL_SAMPLE = 128
 
 
 class Old(NamedTuple):
-    """An old array: its buckets, its next unit, the buckets that are killed, and the open units."""
+    """An old array: its length, its next unit, the killed buckets, and the open units."""
 
     length: int
     position: int
@@ -41,7 +41,7 @@ class Old(NamedTuple):
 
 
 class State(NamedTuple):
-    """The slots of the current array, the old array or None, and how many refusals are left."""
+    """The slots of the current array, the old array or None, and how many more allocations may fail."""
 
     slots: int
     old: object
@@ -52,7 +52,7 @@ class State(NamedTuple):
 
 
 def power_for(number):
-    """The least power of two that isn't less."""
+    """The least power of two that is at least this number."""
     return 1 << max(number - 1, 0).bit_length()
 
 
@@ -88,7 +88,7 @@ def small_sample(length):
 
 
 class Arrays:
-    """The states that the arrays may be in, and the pairs by their homes in the longest array."""
+    """The states that the arrays may be in, and the number of pairs in each home of the longest array."""
 
     def __init__(self, kind, hash, minimum, maximum, refusals):
         self.kind, self.hash = kind, HASHES[hash]
@@ -97,7 +97,7 @@ class Arrays:
         self.states = {State(0, None, refusals)}
 
     def follow(self, line, reply):
-        """Takes a line and a reply that is one of the map's, and says whether it fits a state."""
+        """Takes a line and a reply that the map gives, and returns whether it fits a state."""
         verb, *words = line.split()
         if verb in ("put", "remove"):
             self.states = set(getattr(self, verb)(self.hash(int(words[0])), reply))
@@ -108,14 +108,14 @@ class Arrays:
         return bool(self.states)
 
     def resettle(self, verb, words):
-        """The minimum, if the line sets it."""
+        """Updates the minimum, if the line changes it."""
         if verb == "reserve" and int(words[0]) <= self.maximum - self.minimum:
             self.minimum += int(words[0])
         if verb == "release" and int(words[0]) <= self.minimum:
             self.minimum -= int(words[0])
 
     def step(self, state, verb, words, reply):
-        """The states that a line leaves which changes no pair."""
+        """The states after a line that changes no pair."""
         if verb in ("reserve", "release"):
             is_set = reply == words[0]
             return self.resized(state) if is_set else [state]
@@ -137,12 +137,12 @@ class Arrays:
         return sum(self.pairs[bucket * width : bucket * width + width])
 
     def sample(self, start, size, length):
-        """How many pairs an array has, by some of its buckets."""
+        """An estimate of an array's number of pairs, from some of its buckets."""
         width = len(self.pairs) // length
         return sum(self.pairs[start * width : (start + size) * width]) * (length // size)
 
     def plan(self, slots):
-        """The slots that a resize makes of these; 0 where the array is given up."""
+        """The slots after a resize of an array with these; 0 if the array is dropped."""
         length, minimum, maximum = slots // BUCKET, self.minimum, self.maximum
         large, full = large_sample(length), min(length, FULL_SAMPLE)
         last = self.sample(length - large, large, length)
@@ -170,13 +170,13 @@ class Arrays:
         return [State(slots, old, state.refusals), *refused]
 
     def near(self, index, length):
-        """How many slots the buckets of the small sample near one have, and how many pairs."""
+        """The slots, and the pairs, of the small sample of buckets near this one."""
         small = small_sample(length)
         start = index % small
         return small * BUCKET, sum(self.len_of(start + at, length) for at in range(small))
 
     def grown(self, state, hash):
-        """After a writer was given the home of a hash."""
+        """After a call that writes to the home of a hash."""
         length = state.slots // BUCKET
         home = self.home(hash, length)
         is_largest = self.kind == "cache" and state.slots == self.maximum
@@ -186,7 +186,7 @@ class Arrays:
         return self.resized(state) if is_crowded(*self.near(home, length)) else [state]
 
     def shrunk(self, state, hash):
-        """After the last pair of a home went."""
+        """After the last pair of a home was removed."""
         length = state.slots // BUCKET
         is_least = state.slots <= self.minimum
         if is_least or not is_deserted(*self.near(self.home(hash, length), length)):
@@ -194,13 +194,13 @@ class Arrays:
         return self.resized(state)
 
     def takes_memory(self, state, bucket):
-        """Whether the move of an old bucket may ask for memory."""
+        """Whether moving an old bucket may allocate."""
         length = state.old.length
         pairs = 0 if bucket in state.old.killed else self.len_of(bucket, length)
         return pairs > BUCKET or pairs > 0 and length > state.slots // BUCKET
 
     def moved(self, state, buckets):
-        """The states after old buckets moved in turn, each with whether all did."""
+        """The states after old buckets moved in turn, each with whether all of them did."""
         moved = []
         for bucket in buckets:
             if state.refusals and self.takes_memory(state, bucket):
@@ -210,7 +210,7 @@ class Arrays:
         return [(state, True), *moved]
 
     def worked(self, state):
-        """After a unit, if one is left."""
+        """After working a unit, if one is left."""
         unit = state.old.next_unit() if state.old else None
         if unit is None:
             return [state]
@@ -221,13 +221,13 @@ class Arrays:
         return worked
 
     def ended(self, state):
-        """Without the old array, where its last unit is done and no ticket is open."""
+        """Without the old array, if its last unit is done and no ticket is open."""
         old = state.old
         is_over = not old.open and UNIT * old.position >= old.length
         return state._replace(old=None) if is_over else state
 
     def prepared(self, state, hash):
-        """After a unit and the move of a home's old pairs, each with whether these came."""
+        """After a unit, and the move of a home's old pairs, each with whether these moved."""
         prepared = []
         for after in self.worked(state):
             if after.old is None:
@@ -245,7 +245,7 @@ class Arrays:
         return [it for after in worked for it in (self.resized(after) if is_empty else [after])]
 
     def put(self, hash, reply):
-        """The states after a put, whose pair came where the reply says so."""
+        """The states after a put; the reply says whether its pair was inserted."""
         for state in self.states:
             if not state.slots:
                 if state.refusals and reply == "refused 3":
@@ -258,11 +258,11 @@ class Arrays:
             self.pairs[self.home(hash, len(self.pairs))] += 1
 
     def kept(self, state, reply):
-        """The state where old pairs haven't come: then none is put."""
+        """The state if old pairs couldn't move: then nothing is inserted."""
         return [state] if reply in ("refused 3", "present") else []
 
     def inserted(self, state, hash, reply):
-        """A pair beyond the own slots may need a block, as may any beside marks."""
+        """A pair that finds no own slot may need a block; in an index, with its tombstones, any pair may."""
         length = state.slots // BUCKET
         is_full = self.kind == "index" or self.len_of(self.home(hash, length), length) >= BUCKET
         grown = self.grown(state, hash)
@@ -271,7 +271,7 @@ class Arrays:
         return [after.refused() for after in grown if is_full and after.refusals]
 
     def remove(self, hash, reply):
-        """The states after a removal, whose pair went where the reply says so, from either array."""
+        """The states after a removal; the reply says whether a pair was removed, from either array."""
         prepared = [it for state in self.states for it in self.prepared(state, hash)]
         goes = reply.startswith("pair")
         self.pairs[self.home(hash, len(self.pairs))] -= goes
@@ -281,7 +281,7 @@ class Arrays:
             yield from self.shrunk(after, hash) if is_emptied else [after]
 
     def ticketed(self, state, verb, words):
-        """The states after a call on tickets, each with its reply."""
+        """The states after a ticket call, each with its reply."""
         old = state.old
         if verb == "start":
             unit = old.next_unit() if old else None
@@ -297,7 +297,7 @@ class Arrays:
         return [self.closed(state, int(words[0]), words[1] == "done")]
 
     def closed(self, state, ticket, is_done):
-        """The state after a ticket was ended, with the reply."""
+        """The state after the end of a ticket, with the reply."""
         unit, rest = divmod(ticket, 2048)
         old = state.old
         if not old or rest or unit not in old.open:

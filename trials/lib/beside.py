@@ -1,4 +1,4 @@
-"""A plain map beside a table: which replies it may give to a line, and what they do to the map."""
+"""A plain map as a model of a table: which replies a line may get, and how they change the map."""
 
 import re
 
@@ -8,7 +8,7 @@ HASHES = {
     "spread": lambda key: (key << 56 | key & 255) % 2**64,
 }
 
-# What is said of arrays and tickets is not the map's: any reply of the line's form may come.
+# The map doesn't know arrays and tickets: to these lines it accepts any reply of the right form.
 FORMS = {
     "epoch": "ok",
     "slots": "[0-9]+",
@@ -18,18 +18,18 @@ FORMS = {
     "end": "gone|stays|refused [12]",
 }
 
-# What changes a pair that is there is never refused.
+# The lines that may fail to allocate. One that changes a present pair never does.
 REFUSABLE = {"put", "evict", "walk"}
 
 
 class Beside:
-    """The maps that the table may hold. There is one, until a clearing is refused."""
+    """The maps that the table may hold: one, until a `clear` fails."""
 
     def __init__(self):
         self.maps = []
 
     def follow(self, line, reply):
-        """Takes a line that could be read, and says whether its reply is one of the map's."""
+        """Takes a valid line, and returns whether its reply is one that the map gives."""
         verb, *words = line.split()
         if verb == "new":
             self.kind, self.hash = words[0], HASHES[words[1]]
@@ -59,7 +59,7 @@ class Beside:
         return str(number)
 
     def steps(self, map, verb, numbers, reply):
-        """The maps that the table may hold then: none, where the reply is not one of this map's."""
+        """The maps that the table may hold afterwards: none, if this map doesn't give the reply."""
         if verb in ("touch", "evict") and self.kind != "cache":
             return [map] if reply == "wrong kind" else []
         if reply == "refused 3":
@@ -72,24 +72,24 @@ class Beside:
             return [without(map, key)] if map.get(key) == value else []
         if verb == "walk":
             return [map] if re.fullmatch(f"walked [0-9]+ {len(map)}", reply) else []
-        wanted, after = answer(map, verb, *numbers)
-        return [after] if reply == wanted else []
+        expected, after = answer(map, verb, *numbers)
+        return [after] if reply == expected else []
 
     def refused(self, map, verb, numbers):
-        """The maps that a refused line may leave: a put is refused only where its key is absent."""
+        """The maps that a failed line may leave. A put fails only if its key is absent."""
         if verb == "clear":
             return self.cleared(map)
         is_right = verb in REFUSABLE and not (verb == "put" and numbers[0] in map)
         return [map] if is_right else []
 
     def cleared(self, map):
-        """What a refused clearing may leave: the pairs whose hash is not below some bound."""
+        """What a failed `clear` may leave: the pairs whose hash is not below some bound."""
         bounds = {0, 2**64, *(self.hash(key) for key in map)}
         return [{k: map[k] for k in map if self.hash(k) >= bound} for bound in sorted(bounds)]
 
 
 def answer(map, verb, key=None, value=None):
-    """The one reply that a map gives, and the map after it."""
+    """The reply of a map to a line, and the map afterwards."""
     there = map.get(key)
     if verb == "count":
         return str(len(map)), map

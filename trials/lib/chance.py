@@ -1,8 +1,8 @@
-"""Numbers that look like chance and are the same in every run."""
+"""Pseudo-random numbers that are the same in every run."""
 
 
 class Chance:
-    """A linear congruential generator, whose upper bits are the better ones."""
+    """A linear congruential generator; its upper bits are the better ones."""
 
     def __init__(self, state):
         self.state = state

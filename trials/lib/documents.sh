@@ -1,18 +1,18 @@
-# For trials to source, after running.sh: plays the shell commands of a document in a copy of the
-# repository, as a reader pastes them.
+# For trials and lints to source, after running.sh: runs the shell commands of a document in a copy of
+# the repository, as a reader would paste them.
 #
-#   block DOCUMENT WORD NUMBER    prints the text of the NUMBERth block whose head is ```WORD
-#   blocks DOCUMENT [WORD]        how many blocks have that head, or ```sh
-#   play DOCUMENT NUMBER FOLDER   runs the lines of a ```sh block in one shell, at FOLDER: each has to
-#                                 end with status 0. The output goes to $folder/output, and that of
-#                                 lines after `$ ` has to be the lines below them
-#   check_unplayed DOCUMENT       each line of $unplayed has to be in the document
-#   play_programs DOCUMENT COPY   runs the ```rust blocks, each a program, in turn without proof: one
-#                                 crate in a copy of the repository. Their output has to be what their
-#                                 comments `// prints ..` say
-#   check_excerpts DOCUMENT WORD FILES    each ```WORD block has to be a part of one of the files
+#   block DOCUMENT WORD NUMBER    prints the text of the NUMBERth block that begins with ```WORD
+#   blocks DOCUMENT [WORD]        prints how many blocks begin so; the default is ```sh
+#   play DOCUMENT NUMBER FOLDER   runs the lines of a ```sh block in one shell, in FOLDER: each must end
+#                                 with status 0. The output goes to $folder/output. If lines begin with
+#                                 `$ `, only those are run, and the other lines are the expected output
+#   check_unplayed DOCUMENT       each line of $unplayed must be in the document
+#   play_programs DOCUMENT COPY   runs the ```rust blocks, each a program, in turn and without proof, as
+#                                 one crate in a copy of the repository. Their output must be what
+#                                 their comments `// prints ..` say
+#   check_excerpts DOCUMENT WORD FILES    each ```WORD block must be a part of one of the files
 #
-# $unplayed has the commands that aren't played, a line each.
+# $unplayed has the commands that aren't run, one per line.
 
 block() {
     awk -v head="\`\`\`$2" -v wanted="$3" '
@@ -25,7 +25,7 @@ blocks() {
     grep -c "^\`\`\`${2:-sh}\$" "$root/$1"
 }
 
-# The commands of a block, without comments.
+# commands DOCUMENT NUMBER: prints the commands of a block, without comments.
 commands() {
     local text
     text=$(block "$1" sh "$2")
@@ -42,7 +42,7 @@ play() {
         fail "$1, block $2: a command failed"
     if block "$1" sh "$2" | grep -q '^\$ '; then
         block "$1" sh "$2" | grep -v '^\$ ' >"$folder/below"
-        diff "$folder/below" "$folder/output" >"$folder/log" || fail "$1, block $2: below (<) and found (>) differ"
+        diff "$folder/below" "$folder/output" >"$folder/log" || fail "$1, block $2: shown (<) and printed (>) differ"
     fi
     played=$((${played:-0} + $(wc -l <"$folder/commands")))
 }
@@ -62,7 +62,7 @@ play_programs() {
     programs=$(blocks "$1" rust)
     rm -rf "$crate"
     mkdir -p "$crate/src"
-    : >"$folder/told"
+    : >"$folder/expected"
     grep -q '^pages:' "$2/crates.txt" || echo 'pages: collections bucket_table bucket_slots' >>"$2/crates.txt"
     {
         echo '#![tactic(auto)]'
@@ -73,14 +73,14 @@ play_programs() {
         for ((number = 1; number <= programs; number++)); do
             block "$1" rust "$number" | sed '/^#!\[tactic(auto)\]$/d; s/^fn main(/pub fn main(/' \
                 >"$crate/src/program_$number.rt"
-            sed -n 's|^.*// prints ||p' "$crate/src/program_$number.rt" >>"$folder/told"
+            sed -n 's|^.*// prints ||p' "$crate/src/program_$number.rt" >>"$folder/expected"
             echo "    program_$number::main(rt)?;"
         done
         printf '%s\n' '    Ok(())' '}'
     } >"$crate/src/main.rt"
-    [ "$programs" != 0 ] && [ -s "$folder/told" ] || fail "$1 has no program that prints"
+    [ "$programs" != 0 ] && [ -s "$folder/expected" ] || fail "$1 has no program that prints"
     (cd "$crate" && rt try) >"$folder/output" 2>"$folder/log" </dev/null || fail "$1: a program failed"
-    diff "$folder/told" "$folder/output" >"$folder/log" || fail "$1: told (<) and printed (>) differ"
+    diff "$folder/expected" "$folder/output" >"$folder/log" || fail "$1: the comments (<) and the output (>) differ"
 }
 
 check_excerpts() {

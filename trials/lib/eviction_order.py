@@ -1,9 +1,9 @@
-"""Caches that grow and shrink, beside a plain model of each bucket's order of use.
+"""Caches that grow and shrink, checked against a model of each bucket's LRU order.
 
   eviction_order.py PROGRAM    runs PROGRAM on the lines, and judges each reply
 
-The lines ask for the slots behind each call, so that the model knows when the array changes. It
-moves all pairs on at once: a bucket of the new array changes only after its pairs have come.
+After each call the lines ask for the slots, so that the model knows when the array changes. The model
+moves all pairs at once: a bucket of the new array changes only after its pairs have moved there.
 """
 
 import subprocess
@@ -21,10 +21,10 @@ MOST = 2**63
 
 
 class Bucket:
-    """Own slots, blocks of a chain with its head first, and the own keys in use, newest first.
+    """Own slots, blocks of a chain with its head first, and the LRU order of the own keys, newest first.
 
-    There is one order of these, until one is touched of which it's untold whether it has moved on
-    from an old bucket; `came` then has the old bucket's number, and whether it was an own slot's.
+    There is one such order, until a key is touched that may or may not have moved from an old bucket;
+    `came` then has the old bucket's number, and whether the key was in an own slot there.
     """
 
     def __init__(self):
@@ -54,7 +54,7 @@ class Bucket:
         self.orders = {without(order, key) for order in self.orders}
 
     def touch(self, key):
-        """The key becomes the newest of all, or of those that its old bucket still has."""
+        """The key becomes the newest of all, or of those that are still in its old bucket."""
         if key not in self.own:
             return
         orders = {(key, *without(order, key)) for order in self.orders}
@@ -75,7 +75,7 @@ class Bucket:
         return order[-1] if order else self.own[0]
 
     def evict(self, key):
-        """Keeps the orders of which this key is the oldest, and says whether there is one."""
+        """Keeps the orders in which this key is the oldest, and returns whether there is one."""
         self.orders = {order for order in self.orders if self.oldest(order) == key}
         return bool(self.orders)
 
@@ -89,10 +89,10 @@ def any_key(block):
 
 
 class Cache:
-    """The buckets by their index, and what has become of the array so far.
+    """The buckets by their index, and what has happened to the array so far.
 
-    Where requests for memory may be refused, it's untold which old buckets have moved on when a key
-    is touched, until an eviction of their home isn't refused, or a pair is put there.
+    If allocations may fail, it is unknown which old buckets have moved when a key is touched, until an
+    eviction from their home succeeds, or a pair is put there.
     """
 
     def __init__(self, hash, may_be_refused=False):
@@ -105,7 +105,7 @@ class Cache:
         return self.buckets[self.index(key, len(self.buckets))] if self.buckets else Bucket()
 
     def resize(self, length):
-        """Moves each pair to its new home: the ones in use that get own slots come last there."""
+        """Moves each pair to its new home: listed ones that get own slots become the oldest there."""
         old, self.buckets = self.buckets, [Bucket() for _ in range(length)]
         if old and length:
             self.seen["growths" if length > len(old) else "shrinkages"] += 1
@@ -122,13 +122,13 @@ class Cache:
                 self.carry(source.orders, self.buckets[home])
 
     def carry(self, orders, target):
-        """Those of an old bucket in use that got own slots come behind a target's own."""
+        """The listed keys of an old bucket that got own slots come after the target's own in its order."""
         came = {tuple(key for key in order if key in target.own) for order in orders}
         target.orders = {(*order, *more) for order in target.orders for more in came}
         self.seen["carried"] += max(len(more) for more in came)
 
     def evicts(self, key, reply):
-        """Whether an eviction may have this reply; it is done then."""
+        """Returns whether an eviction may have this reply, and if so does it."""
         home = self.home(key)
         if None in home.own:
             return reply == "nothing"
@@ -140,7 +140,7 @@ class Cache:
         return True
 
     def answer(self, verb, key):
-        """The reply, once the call was done on the buckets as they are."""
+        """Does the call on the current buckets, and returns the reply."""
         home = self.home(key)
         if key not in home.keys():
             return "absent"
@@ -151,21 +151,21 @@ class Cache:
         return f"pair {key} {key}"
 
     def follow(self, line, reply, slots):
-        """Takes a call, its reply and the slots behind it, and says whether the reply is right."""
+        """Takes a call, its reply and the slots after it, and returns whether the reply is right."""
         verb, key = line.split()[0], int(line.split()[1])
         length = slots // OWN
         if not self.buckets:
             self.resize(length)
         if verb == "evict" or (verb, reply) == ("put", "ok"):
-            # The bucket's last pairs have come. A put may find its key where they are still to come.
+            # All pairs of this bucket have moved here. A put that finds its key may find it in an old bucket.
             self.home(key).came = {}
         if verb == "evict":
             is_right = self.evicts(key, reply)
         elif verb == "put":
-            wanted = "present" if key in self.home(key).keys() else "ok"
-            if wanted == "ok":
+            expected = "present" if key in self.home(key).keys() else "ok"
+            if expected == "ok":
                 self.home(key).put(key)
-            is_right = reply == wanted
+            is_right = reply == expected
         else:
             is_right = reply == self.answer(verb, key)
         if length != len(self.buckets):
@@ -174,7 +174,7 @@ class Cache:
 
 
 def lines_of(chance, keys):
-    """Phases in which the keys come, and in which all but a few of them go again."""
+    """Phases in which all keys are put, and all but a few removed again."""
     for _ in range(PHASES):
         puts = [f"put {key} {key}" for key in shuffled(chance, keys)]
         removals = [f"remove {key}" for key in shuffled(chance, keys)[FEW:]]
@@ -195,7 +195,7 @@ def text_of(name, calls):
 
 
 def judge(name, calls, replies):
-    """What was seen of a cache: the first reply is to the line that makes it."""
+    """What happened to a cache. The first reply is to the line that makes it."""
     if len(replies) != 2 * len(calls) + 1:
         sys.exit(f"{name}: {len(replies)} replies")
     cache = Cache(HASHES[name])
@@ -206,7 +206,7 @@ def judge(name, calls, replies):
     return cache.seen
 
 
-# Hashes with the keys that spread over the buckets of each.
+# Hashes, each with keys that spread over the buckets.
 CACHES = [
     ("spread", list(range(2048))),
     ("id", [number * 0x9E3779B97F4A7C15 % 2**64 for number in range(2048)]),

@@ -1,4 +1,4 @@
-"""5,000 inputs made by chance for the program, beside a plain reader of lines.
+"""5,000 random inputs for the program, checked against a plain reader of lines.
 
   odd_lines.py PROGRAM    runs the program on each, and judges its replies and its status
 """
@@ -14,7 +14,7 @@ from chance import Chance
 INPUTS = 5000
 LONGEST = 4096
 
-# What stands behind the verb of a line.
+# What follows the verb of a line.
 NUMBER = "number"
 FORMS = {
     b"new": [("map", "index", "cache"), ("zero", "id", "spread"), NUMBER, NUMBER],
@@ -36,7 +36,7 @@ def lines_in(data):
 
 
 def words_in(line):
-    """The words of a line, or None where it can't be read for its bytes."""
+    """The words of a line, or None if its bytes make it invalid."""
     line = line.removesuffix(b"\r")
     if len(line) > LONGEST:
         return None
@@ -65,7 +65,7 @@ def can_be_read(words, has_table):
 
 
 def read(data):
-    """The lines that are to be answered, and the number of the first that can't be read, if any."""
+    """The lines that get an answer, and the number of the first invalid line, if there is one."""
     asked = []
     for number, line in enumerate(lines_in(data), 1):
         words = words_in(line)
@@ -77,8 +77,8 @@ def read(data):
     return asked, None
 
 
-# Numbers at the edges, and words that are nearly numbers. No table is asked for that is great and
-# yet might be had.
+# Numbers at the edges, and words that are nearly numbers. No number asks for a large table that might
+# be allocated.
 SMALL = [b"0", b"1", b"2", b"7", b"31", b"64", b"007", b"0" * 19 + b"5"]
 EDGES = [b"63", b"65", b"127", b"128", b"255", b"256", b"2047", b"2048", b"4096", b"%d" % 2**62]
 EDGES += [b"%d" % it for it in (2**63 - 1, 2**63, 2**64 - 1)]
@@ -108,7 +108,7 @@ def new_line(chance):
 
 
 def line(chance):
-    """The words of a line that can mostly be read."""
+    """The words of a line, which is mostly valid."""
     verb = chance.pick(sorted(FORMS) + [b"put", b"peek"] * 5)
     words = [verb, *(operand(chance, form) for form in FORMS[verb])]
     if verb == b"new" and chance.below(5):
@@ -126,7 +126,7 @@ def line(chance):
 
 
 def spelt(chance, words):
-    """A line of these words, with blanks about them, and now and then odd bytes or a great length."""
+    """A line of these words with blanks around them, and sometimes with odd bytes or very long."""
     text = b"".join(word + chance.pick(BLANKS) for word in words)
     if chance.below(3):
         text = text.rstrip(b" \t")
@@ -146,7 +146,7 @@ def spelt(chance, words):
 
 
 def made(chance):
-    """An input: mostly a line that makes a table, and then up to twenty others."""
+    """An input: mostly a line that makes a table, then up to twenty others."""
     count = chance.below(21)
     all_words = [new_line(chance) if chance.below(12) else line(chance)]
     all_words += [line(chance) for _ in range(count)]
@@ -155,16 +155,16 @@ def made(chance):
 
 
 def judge(data, output, status):
-    """Says what is wrong with an output, or gives None."""
+    """Returns what is wrong with an output, or None."""
     asked, bad = read(data)
     replies = output.decode().split("\n")
     if replies.pop() != "":
-        return "the last line of output has no end"
+        return "the last line of output has no newline"
     last = [f"bad line {bad}"] if bad else []
     if status != (2 if bad else 0) or len(replies) != len(asked) + len(last):
-        return f"status {status} and {len(replies)} lines, for {len(asked)} replies and {last}"
+        return f"status {status} and {len(replies)} lines, not {len(asked)} replies and {last}"
     if replies[len(asked) :] != last:
-        return f"the last line is {replies[-1]}, and not {last[0]}"
+        return f"the last line is {replies[-1]}, not {last[0]}"
     beside = Beside()
     for line, reply in zip(asked, replies):
         if not beside.follow(line, reply):
@@ -189,7 +189,7 @@ def main(program):
             counts["with a line of the greatest length"] += 1
     print(f"{INPUTS} inputs:", ", ".join(f"{it} {count}" for it, count in sorted(counts.items())))
     if len(counts) < 5 or min(counts.values()) < 20:
-        sys.exit("too few inputs of some sort")
+        sys.exit("there are too few inputs of some kind")
 
 
 if __name__ == "__main__":

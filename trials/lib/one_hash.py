@@ -1,4 +1,4 @@
-"""Scripts on 8,032 keys of one hash, which fill 2,000 blocks of a chain, and their replies.
+"""Scripts on 8,032 keys with one hash, which fill 2,000 blocks of a chain, and their replies.
 
   one_hash.py FOLDER    writes FOLDER/NAME.lines and FOLDER/NAME.replies
 """

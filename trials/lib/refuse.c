@@ -1,11 +1,10 @@
-// Refuses requests for memory of the program that it is preloaded into.
+// Makes allocations of the program fail that this library is preloaded into.
 //
-// Each request whose number, counted from 1, stands in REFUSED_REQUEST is answered as if no memory
-// were left; the numbers rise, with a comma between two. Where REFUSED_BYTES is given, REFUSED_REQUEST
-// is one number, and each request behind that one for so many bytes or more is so answered by chance,
-// one in four, by REFUSED_SEED. `refused` is said on standard error each time. Where ASKED_BYTES is
-// given, `asked N` is said of each request for N bytes. Only what the program's own code asks for is
-// counted: what its libraries ask for on their own is not.
+// REFUSED_REQUEST lists the numbers of the allocations that fail, counted from 1: rising, with commas
+// between them. With REFUSED_BYTES, REFUSED_REQUEST is one number, and later allocations of so many
+// bytes or more fail at random, one in four, by the seed REFUSED_SEED. Each failure prints `refused` on
+// standard error. With ASKED_BYTES, each allocation of N bytes prints `asked N`. Only allocations by the
+// program's own code count, not those that its libraries make on their own.
 #define _GNU_SOURCE
 #include <dlfcn.h>
 #include <errno.h>
@@ -15,22 +14,23 @@
 #include <stdlib.h>
 #include <unistd.h>
 
-// Where the program's code stands.
+// The addresses of the program's code.
 static uintptr_t start, end;
 
-// How many requests came, the next one that is refused, or 0 where none is any more, and the numbers
-// behind it.
+// How many allocations were made, the next one that fails, or 0 if no other does, and the rest of the
+// list.
 static unsigned long asked, refused;
 static char *behind;
 
-// The state of chance, and the fewest bytes that it refuses; 0 where it refuses nothing.
+// The state of the random numbers, and the fewest bytes of an allocation that fails at random, or 0 if
+// none does.
 static uint64_t chance;
 static size_t fewest;
 
-// Whether each request is told.
-static int tells;
+// Whether each allocation is printed.
+static int prints;
 
-// The first object is the program.
+// Notes the addresses of the first object, which is the program.
 static int note_program(struct dl_phdr_info *info, size_t size, void *unused) {
     (void)size;
     (void)unused;
@@ -46,12 +46,12 @@ static int note_program(struct dl_phdr_info *info, size_t size, void *unused) {
     return 1;
 }
 
-// Reads the next number, behind a comma where there is one.
+// Reads the next number of the list, after a comma if there is one.
 static void next_refused(void) {
     refused = behind ? strtoul(behind + (*behind == ','), &behind, 10) : 0;
 }
 
-// The number that the environment gives under a name, or 0.
+// The number in an environment variable, or 0.
 static unsigned long number_of(const char *name) {
     const char *number = getenv(name);
     return number ? strtoul(number, NULL, 10) : 0;
@@ -62,11 +62,11 @@ __attribute__((constructor)) static void begin(void) {
     next_refused();
     chance = number_of("REFUSED_SEED");
     fewest = number_of("REFUSED_BYTES");
-    tells = getenv("ASKED_BYTES") != NULL;
+    prints = getenv("ASKED_BYTES") != NULL;
     dl_iterate_phdr(note_program, NULL);
 }
 
-// Whether this request of the program is one of those numbered, or one by chance.
+// Whether this allocation is one of the list, or chosen at random.
 static int is_chosen(size_t size) {
     asked++;
     if (fewest > 0) {
@@ -83,19 +83,19 @@ static int is_chosen(size_t size) {
     return 1;
 }
 
-// Says some bytes on standard error.
+// Writes some bytes to standard error.
 static void say(const char *said, size_t len) {
     if (write(STDERR_FILENO, said, len) < 0) {
         _exit(99);
     }
 }
 
-// Counts a request by the place that it is to return to.
+// Whether this allocation fails. It counts if its return address is in the program's code.
 static int is_refused(void *back, size_t size) {
     if ((uintptr_t)back < start || (uintptr_t)back >= end) {
         return 0;
     }
-    if (tells) {
+    if (prints) {
         char line[40];
         say(line, (size_t)snprintf(line, sizeof line, "asked %zu\n", size));
     }
@@ -109,7 +109,7 @@ static int is_refused(void *back, size_t size) {
 
 #define IS_REFUSED(size) is_refused(__builtin_return_address(0), size)
 
-// The function of this name behind this library.
+// The function of this name that this library hides.
 #define NEXT(type, name) ((type)dlsym(RTLD_NEXT, name))
 
 static void *none(void) {

@@ -1,16 +1,16 @@
-"""Caches that grow and shrink while requests for memory are refused by chance.
+"""Caches that grow and shrink while random allocations fail.
 
   refused_evictions.py write FOLDER    writes the lines of each run to FOLDER/SEED
   refused_evictions.py judge FOLDER    judges the runs FOLDER/SEED, whose first line is their status
-                                       and the number of requests that were refused
+                                       and the number of allocations that failed
 
-Which old buckets have moved is untold where one is refused. They move in their order and each whole,
-room that a refused move has made is used by the next, and a put or an eviction of a bucket is refused
-until the last of them has moved. So where a pair stands is told by a model that moves all on at once.
-A touch is never refused: it makes its key the newest of all or, where its old bucket hasn't moved, of
-those in that; the model has an order for each, and an eviction rules out those that it doesn't fit.
-No pair is removed, since it would leave another place behind. A step that is refused changes nothing
-in the model, and a run has no more of them than requests that were refused.
+If an allocation fails, it is unknown which old buckets have moved. They move in order and each as a
+whole, room that a failed move has made is used by the next, and a put or an eviction in a bucket fails
+until the last of them has moved. So a model that moves all at once knows the place of each pair.
+A touch never fails: it makes its key the newest of all or, if its old bucket hasn't moved, the newest
+there; the model keeps an order for each case, and an eviction excludes those that it doesn't fit.
+No pair is removed, since that would leave a different free place. A call that fails changes nothing
+in the model, and a run has at most as many of them as allocations that failed.
 """
 
 import os
@@ -26,7 +26,7 @@ PHASES = 40
 CALLS = 90
 SLOTS = 4096
 
-# For each hash a key of the home of a byte.
+# For each hash, a key whose home is given by a byte.
 KEYS = {
     "spread": lambda home, number: number << 8 | home,
     "id": lambda home, number: home << 56 | number,
@@ -34,12 +34,12 @@ KEYS = {
 
 
 def lines_of(seed):
-    """The lines of a run: the minimum is raised and lowered in turn, and pairs come and go."""
+    """The lines of a run: the minimum is raised and lowered in turn, and pairs are put and evicted."""
     chance = Chance(seed)
     name = sorted(KEYS)[seed % 2]
     key_of = KEYS[name]
-    # More than the own slots of a bucket in eight homes, however long the array, and a few in each.
-    # The first and the last buckets stay empty, so that setting the minimum resizes.
+    # Eight homes have more keys than a bucket has own slots, however long the array; the others a few.
+    # The first and the last buckets stay empty, so that changing the minimum resizes.
     crowd = [key_of(8 * home + 32, number) for home in range(8) for number in range(OWN + 8)]
     keys = [key_of(home, number) for home in range(32, 96) for number in range(4)]
     yield f"new cache {name} 1 {MOST}"
@@ -64,7 +64,7 @@ def write(folder):
 
 
 def follow(cache, call, reply, slots):
-    """Takes a call, its reply and the slots behind it, and says whether the reply is right."""
+    """Takes a call, its reply and the slots after it, and returns whether the reply is right."""
     verb, word = call.split()[:2]
     if reply == "refused 3" and verb in REFUSABLE:
         cache.seen[f"refused {verb}"] += 1
@@ -79,7 +79,7 @@ def follow(cache, call, reply, slots):
 
 
 def judge_run(seed, status, refusals, replies):
-    """What was seen of a run: the first reply is to the line that makes the cache."""
+    """What happened in a run. The first reply is to the line that makes the cache."""
     first, *calls = lines_of(seed)
     cache = Cache(HASHES[first.split()[2]], may_be_refused=True)
     if status == 3 and replies and replies[-1] == "no memory":
@@ -92,8 +92,8 @@ def judge_run(seed, status, refusals, replies):
             sys.exit(f"seed {seed}, line {2 * number + 2}: {calls[number]} answered {reply}")
     refused = sum(cache.seen[f"refused {verb}"] for verb in REFUSABLE)
     if refused > refusals:
-        sys.exit(f"seed {seed}: {refused} steps and {refusals} requests were refused")
-    cache.seen["requests refused"] = refusals
+        sys.exit(f"seed {seed}: {refused} calls failed, but only {refusals} allocations")
+    cache.seen["failed allocations"] = refusals
     return cache.seen
 
 

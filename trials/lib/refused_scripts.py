@@ -1,4 +1,4 @@
-"""Scripts for runs in which one request for memory is refused, and their judge.
+"""Scripts for runs in which one allocation fails, and their judge.
 
   refused_scripts.py write FOLDER    writes each script's lines to FOLDER/NAME/input
   refused_scripts.py judge FOLDER    judges the runs FOLDER/NAME/N, whose first line is their status
@@ -29,11 +29,11 @@ def peeks(*keys):
 
 
 def looks(rows):
-    """Looks for key 5 behind each row."""
+    """Looks for key 5 after each row."""
     return [row for it in rows for row in (it, ("peek 5", "value 50"))]
 
 
-# Lines, with their replies where no request is refused, and those that some other run has to give.
+# Lines, each with its reply if no allocation fails, and a reply that some other run must give.
 TWO_UNITS = [("put 5 50", "ok", "refused 3"), ("reserve 4096", "4096"), ("slots", "8192", "4096")]
 THE_FIRST_FAILS = [
     ("start", "ticket 0", "none"),
@@ -68,7 +68,7 @@ DOUBLED = [
 
 
 def shrunk(kind):
-    """The array shrinks from 16 buckets to 4, and room has to be made before pairs move."""
+    """The array shrinks from 16 buckets to 4, and pairs move only after blocks are allocated."""
     return [
         (f"new {kind} spread 1 {M}", "ok"),
         *puts(*range(128, 228), *range(32)),
@@ -143,7 +143,7 @@ SCRIPTS = {
         *takes(*range(128, 150)),
         ("count", "17"),
     ],
-    # A refused walk has emptied the old buckets 0 to 9, and not yet 10.
+    # A walk that fails has emptied the old buckets 0 to 9, and not yet 10.
     "a_walk_over_a_shrunk_array": [
         *SHRUNK,
         ("walk", "walked 4 40", "refused 3"),
@@ -180,8 +180,8 @@ SCRIPTS = {
     ],
     "an_eviction": EVICTING,
     "marks": MARKING,
-    # The old bucket has more pairs than own slots, and marks beside them, so that room is reserved in
-    # the longer array.
+    # The old bucket has tombstones and more pairs than own slots, so that room is reserved in the longer
+    # array.
     "marks_and_a_longer_array": [
         (f"new index zero 0 {M}", "ok"),
         *puts(*range(32)),
@@ -206,7 +206,7 @@ SCRIPTS = {
 
 
 def lines_of(rows):
-    """The script's lines; then each of its keys is looked for, and the pairs are counted."""
+    """The script's lines, then a look-up of each of its keys, and a count of the pairs."""
     lines = [row[0] for row in rows]
     keyed = {"put", "write", "read", "peek", "remove", "touch", "evict"}
     keys = sorted({int(it.split()[1]) for it in lines if it.split()[0] in keyed})
@@ -227,7 +227,7 @@ def read_run(file):
 
 
 def judge_run(lines, status, replies, beside):
-    """Says what is wrong with a run, by what is beside it, or gives None."""
+    """Returns what is wrong with a run, by the model, or None."""
     if status == 3:
         if not replies or replies.pop() != "no memory" or len(replies) > len(lines):
             return "status 3 without `no memory`"
@@ -240,27 +240,27 @@ def judge_run(lines, status, replies, beside):
 
 
 def judge_script(folder, rows):
-    """Judges the runs of a script, of which the last was refused nothing, and counts them."""
+    """Judges the runs of a script, in the last of which no allocation failed, and counts them."""
     lines, runs = lines_of(rows), len(os.listdir(folder)) - 1
     unseen = {(at, row[2]) for at, row in enumerate(rows) if len(row) > 2}
-    counts = {"ended": 0, "refused a step": 0, "went otherwise": 0, "went on as ever": 0}
+    counts = {"ended the run": 0, "failed a call": 0, "changed replies": 0, "changed no reply": 0}
     ample = read_run(f"{folder}/{runs}")[1]
     for at, row in enumerate(rows):
         if at >= len(ample) or ample[at] != row[1]:
-            sys.exit(f"{folder}: with all memory `{row[0]}` is not answered `{row[1]}`")
+            sys.exit(f"{folder}: without a failure `{row[0]}` is not answered `{row[1]}`")
     for number in range(1, runs + 1):
         status, replies = read_run(f"{folder}/{number}")
         wrong = judge_run(lines, status, replies, Beside())
         if wrong:
-            sys.exit(f"{folder}: request {number} refused: {wrong}")
+            sys.exit(f"{folder}: allocation {number} failed: {wrong}")
         unseen -= set(enumerate(replies))
         if number < runs:
             refused = "refused 3" in replies
-            on = "went on as ever" if replies == ample else "went otherwise"
-            counts["ended" if status else "refused a step" if refused else on] += 1
+            others = "changed no reply" if replies == ample else "changed replies"
+            counts["ended the run" if status else "failed a call" if refused else others] += 1
     if unseen:
         missing = ", ".join(f"`{rows[at][0]}` with `{reply}`" for at, reply in sorted(unseen))
-        sys.exit(f"{folder}: no refusal had it answer {missing}")
+        sys.exit(f"{folder}: no failure gave the answer {missing}")
     return runs - 1, counts
 
 
@@ -269,9 +269,9 @@ def judge(folder):
     for name, rows in SCRIPTS.items():
         requests, counts = judge_script(f"{folder}/{name}", rows)
         total += requests
-        said = ", ".join(f"{count} {it}" for it, count in counts.items())
-        print(f"{name}: {requests} requests refused: {said}")
-    print(f"{total} requests refused in {len(SCRIPTS)} scripts")
+        summary = ", ".join(f"{count} {it}" for it, count in counts.items())
+        print(f"{name}: {requests} allocations failed: {summary}")
+    print(f"{total} allocations failed in {len(SCRIPTS)} scripts")
 
 
 if __name__ == "__main__":

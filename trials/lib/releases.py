@@ -1,8 +1,8 @@
-"""20,000 lines that raise and lower the minimum by chance while a table grows and shrinks.
+"""20,000 random lines that raise and lower the minimum while a table grows and shrinks.
 
   releases.py write FILE     writes the lines
   releases.py judge FOLDER   judges the runs FOLDER/N, whose first line is their status: in all but
-                             the last a request was refused
+                             the last an allocation failed
 """
 
 import os
@@ -21,14 +21,14 @@ TABLES = ["map id", "map spread", "map zero", "index spread", "cache spread"]
 
 
 class Course:
-    """The lines on one table, by chance, with a plain counter of its minimum."""
+    """Random lines on one table, with a plain counter of its minimum."""
 
     def __init__(self, chance, kind):
         self.chance, self.minimum = chance, 0
         self.first = f"new {kind} 0 {M}"
 
     def line(self, rises):
-        """A line: a put or a removal, mostly, or one that sets the minimum, looks or moves."""
+        """A line: mostly a put or a removal, or one that sets the minimum, looks something up or rehashes."""
         chance = self.chance
         key = chance.below(KEYS) * (2**55 + 1)
         chosen = chance.below(16)
@@ -66,14 +66,14 @@ def lines():
 
 
 class Table(Beside):
-    """A map beside its arrays, of whose requests in all tables at most so many are refused."""
+    """A map with the model of its arrays. At most so many allocations fail in all tables together."""
 
     def __init__(self, refusals):
         super().__init__()
         self.refusals = refusals
 
     def follow(self, line, reply):
-        """Whether the reply is one of the map's and of its arrays."""
+        """Returns whether the reply is one that both the map and the arrays may give."""
         if not super().follow(line, reply):
             return False
         verb, *words = line.split()
@@ -86,23 +86,23 @@ class Table(Beside):
 
 
 def judge(folder):
-    wanted, counts = list(lines()), Counter()
+    expected, counts = list(lines()), Counter()
     runs = sorted(map(int, os.listdir(folder)))
     ample = read_run(f"{folder}/{runs[-1]}")[1]
     for number in runs:
         status, replies = read_run(f"{folder}/{number}")
         refusals = int(number < runs[-1])
-        # A run that has the replies of the last one, or broke off in them, is as right as that.
+        # A run with the replies of the last one, or with the first of them, is as right as that one.
         is_begun = status == 3 and replies == [*ample[: len(replies) - 1], "no memory"]
         is_known = is_begun or number < runs[-1] and (status, replies) == (0, ample)
-        wrong = None if is_known else judge_run(wanted, status, replies, Table(refusals))
+        wrong = None if is_known else judge_run(expected, status, replies, Table(refusals))
         if wrong:
-            sys.exit(f"request {number} refused: {wrong}")
+            sys.exit(f"allocation {number} failed: {wrong}")
         counts["runs"] += 1
         counts["ended"] += status == 3
-        counts["refused a step"] += "refused 3" in replies
-        counts["went otherwise"] += status == 0 and "refused 3" not in replies and replies != ample
-        for line, reply in zip(wanted, replies):
+        counts["failed a call"] += "refused 3" in replies
+        counts["changed replies"] += status == 0 and "refused 3" not in replies and replies != ample
+        for line, reply in zip(expected, replies):
             if line.startswith("release"):
                 counts["lowered"] += reply != "0"
                 counts["not lowered"] += reply == "0" and line != "release 0"

@@ -1,22 +1,22 @@
-# For trials to source: builds a program, and runs it.
+# For trials and lints to source: builds a program, and runs it.
 #
-#   prepare NAME                         builds the program of crates/NAME, where it isn't built
-#   prepare_by_rattle                    the same by Rattle's own compiler: $program.by-rattle
-#   compare_run LINES REPLIES SECONDS    runs it on a file of lines: it has to end in time, with
-#                                        status 0 and these replies
-#   fail WHY                             ends the trial, and shows the last run
-#   need_rt                              ends the trial by one line, where there is no rt
-#   is_there COMMAND WHAT                whether a command is there; else a line says that WHAT is left out
-#   copy_repository FOLDER               makes the folder, a copy of the sources where nothing is built
+#   prepare NAME                         builds the program of crates/NAME if needed
+#   prepare_by_rattle                    the same with Rattle's own compiler: $program.by-rattle
+#   compare_run LINES REPLIES SECONDS    runs it on a file of lines: it must end in time, with status 0
+#                                        and these replies
+#   fail WHY                             ends the script, and prints the last run's output
+#   need_rt                              ends the script with one line if rt isn't on the PATH
+#   is_there COMMAND WHAT                whether a command is installed; if not, prints that WHAT is left out
+#   copy_repository FOLDER               makes the folder, an unbuilt copy of the repository
 #
-# The trial's files go to $folder, the last run's output to $folder/output.
+# The script's files are in $folder, the last run's output in $folder/output.
 
 root=$(dirname -- "$(readlink -f -- "${BASH_SOURCE[0]}")")/../..
 folder=$(mktemp -d) || exit 1
 trap 'rm -rf "$folder"' EXIT
 touch "$folder/log" "$folder/output"
 
-# Proves and builds the program, where it isn't there or is older than its sources.
+# Proves and builds the program, if it doesn't exist or is older than its sources.
 prepare() {
     crate=$root/crates/$1
     program=$crate/out/$1
@@ -24,16 +24,17 @@ prepare() {
         return
     fi
     need_rt
-    (cd "$crate" && rt run) </dev/null >"$folder/log" 2>&1 || fail "the program $1 isn't built"
+    (cd "$crate" && rt run) </dev/null >"$folder/log" 2>&1 || fail "the program $1 could not be built"
 }
 
-# Whether a program is there, and is no older than the sources.
+# Whether a program exists, and is no older than the sources.
 is_newest() {
     [ -x "$1" ] && [ -z "$(find "$root/crates.txt" "$root"/crates/*/{src,specs,proofs} \
         -newer "$1" -print -quit 2>/dev/null)" ]
 }
 
-# Called after prepare, whose program stays: `rt run` writes the same file, whichever compiler it has.
+# Called after prepare, whose program stays in place, although `rt run` writes the same file with either
+# compiler.
 prepare_by_rattle() {
     local made=$program.by-rattle
     if is_newest "$made"; then
@@ -55,7 +56,7 @@ compare_run() {
     if [ "$status" != 0 ]; then
         fail "the run ended with status $status"
     fi
-    diff "$2" "$folder/output" >"$folder/log" || fail "wanted (<) and found (>) differ"
+    diff "$2" "$folder/output" >"$folder/log" || fail "expected (<) and found (>) differ"
 }
 
 need_rt() {
@@ -67,7 +68,7 @@ need_rt() {
 
 is_there() {
     command -v "$1" >/dev/null || {
-        echo "left out: $2, since $1 isn't there"
+        echo "left out: $2, since $1 isn't installed"
         return 1
     }
 }

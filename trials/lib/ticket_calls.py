@@ -1,6 +1,6 @@
-"""100,000 ticket calls by chance, beside a plain ticket machine, and the replies of that.
+"""100,000 random ticket calls, and the replies of a plain ticket machine to them.
 
-  ticket_calls.py FOLDER    writes FOLDER/input and FOLDER/wanted, and says what is in them
+  ticket_calls.py FOLDER    writes FOLDER/input and FOLDER/expected, and prints what is in them
 """
 
 import sys
@@ -15,7 +15,7 @@ MOST_OPEN = 2047
 
 
 class Tickets:
-    """The units of an old array: the next one, the buckets that are killed, and the open units."""
+    """The units of an old array: the next one, the killed buckets, and the open units."""
 
     def __init__(self, length):
         self.length, self.position, self.killed, self.open = length, 0, set(), Counter()
@@ -54,7 +54,7 @@ class Tickets:
         return "gone" if self.is_gone else "stays"
 
 
-# How a table comes to its old array: lines with replies, that array's length, keys to look for.
+# How a table gets its old array: lines with replies, that array's length, keys to look up.
 def grown(kind, minimum):
     keys = [0, 5, 130, 255]
     rows = [(f"new {kind} spread {minimum} {M}", "ok")]
@@ -81,7 +81,7 @@ TABLES = [
     grown("cache", 16384),
 ]
 
-# How often each call is chosen: tickets are mostly worked and ended, or hoarded, or anything is done.
+# How often each call is chosen: tickets are mostly worked and ended, or hoarded, or anything happens.
 MANNERS = [
     {"start": 3, "work": 50, "end done": 8, "end fail": 1, "stray work": 1, "stray end": 1},
     {"hoard": 16, "start": 1, "end fail": 1, "work": 1},
@@ -115,7 +115,7 @@ def next_call(chance, tickets, manner):
 
 
 def rows():
-    """Lines with their replies: tables, and on each ticket calls, with looks between them."""
+    """Lines with their replies: tables, and ticket calls on each, with look-ups between them."""
     chance, calls = Chance(1), 0
     while calls < CALLS:
         made, length, keys = chance.pick(TABLES)
@@ -135,7 +135,7 @@ def rows():
 
 def main(folder):
     counts = Counter()
-    with open(f"{folder}/input", "w") as lines, open(f"{folder}/wanted", "w") as replies:
+    with open(f"{folder}/input", "w") as lines, open(f"{folder}/expected", "w") as replies:
         for line, reply in rows():
             lines.write(line + "\n")
             replies.write(reply + "\n")
@@ -146,7 +146,7 @@ def main(folder):
                 counts["word: all open"] += int(reply) % 2048 == MOST_OPEN
     print(", ".join(f"{it} {count}" for it, count in sorted(counts.items())))
     if len(counts) < 9 or not all(counts.values()):
-        sys.exit("some reply is never wanted")
+        sys.exit("some reply is never expected")
 
 
 if __name__ == "__main__":

@@ -1,4 +1,4 @@
-"""Counts lines by the program and plainly, and compares. Called with the program's path."""
+"""Compares the program's counts of lines with plain ones. Called with the program's path."""
 import collections
 import random
 import subprocess
@@ -39,10 +39,10 @@ def main():
     for text in texts:
         run = subprocess.run([program], input=text, capture_output=True, timeout=60)
         if run.returncode != 0 or run.stderr or run.stdout != counted(text):
-            print(f"wrong on {text[:80]!r} of {len(text)} bytes", file=sys.stderr)
+            print(f"wrong counts of {text[:80]!r} .., {len(text)} bytes", file=sys.stderr)
             return 1
         runs += 1
-    print(f"{runs} texts counted rightly")
+    print(f"{runs} texts were counted correctly")
     return 0
 
 

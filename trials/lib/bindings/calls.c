@@ -1,5 +1,5 @@
-// Makes each call of bucket.h, with each code that it can answer but NO_MEMORY, and exits with 1 at the first check
-// that fails, or 0. C and C++ read it.
+// Makes each call of bucket.h, with each code that it can return except NO_MEMORY. Exits with 1 at the first check
+// that fails, otherwise with 0. It is both C and C++.
 #include "bucket.h"
 
 #include <stdio.h>
@@ -18,7 +18,7 @@
 
 static const uint8_t *text(const char *of) { return (const uint8_t *)of; }
 
-// Every call on a handle that is closed, or holds another kind, answers so and writes nothing out.
+// Every call on a handle that is closed, or holds another kind, returns that code and writes nothing out.
 static int refuse(bucket_handle *handle, bool is_map, bool is_text_map, bool is_set, bool is_cache, bool is_text_cache) {
     uint32_t code = bucket_len(handle) == 0 && !handle->live ? BUCKET_CLOSED : BUCKET_OTHER_KIND;
     uint64_t word = 77, other = 78;
@@ -86,7 +86,7 @@ static int closed(void) {
     return 0;
 }
 
-// A handle that is open isn't opened again.
+// A handle that is open can't be opened again.
 static int open_still(bucket_handle *handle) {
     size_t before = bucket_len(handle);
     CHECK(bucket_map_new(handle, 0, BUCKET_FIXED_SEED) == BUCKET_OPEN);
@@ -128,7 +128,7 @@ static int words(bucket_seed seed) {
         CHECK(bucket_map_get(&map, key * 7919, &value) == BUCKET_OK && value == key);
         CHECK(bucket_map_get(&map, key * 7919 + 1, &value) == BUCKET_ABSENT);
     }
-    // In pieces: each pair once, and the same as in one piece.
+    // In pieces: each pair once, the same as in one piece.
     uint64_t sum = 0;
     size_t start = 0;
     CHECK(bucket_pairs(&map, 0, pairs, ENTRIES, &count) == BUCKET_OK && count == ENTRIES);
@@ -252,7 +252,7 @@ static int recent(bucket_seed seed) {
             evicted++;
             CHECK(value == gone + 1 && bucket_cache_get(&cache, gone, &value) == BUCKET_ABSENT);
         }
-        // A pair that was touched in each round stays, also where its bucket is full.
+        // A pair that was touched in each round stays, even if its bucket is full.
         CHECK(bucket_cache_get(&cache, 0, &kept) == BUCKET_OK && kept == 1);
         CHECK(bucket_cache_put(&cache, key, 0, &gone, &value) == BUCKET_PRESENT);
     }
@@ -289,7 +289,7 @@ static int recent_texts(bucket_seed seed) {
     CHECK(bucket_text_cache_remove(&cache, text("ab"), 2, &value) == BUCKET_ABSENT);
     for (unsigned i = 0; i < TEXTS; i++) {
         size_t len = (size_t)snprintf((char *)key, sizeof key, "key %u", i);
-        // Every other key that goes is cut off after five bytes.
+        // Every other evicted key is cut off after five bytes.
         size_t room = i % 2 == 0 ? 16 : 5;
         uint32_t code = bucket_text_cache_put(&cache, key, len, i, gone, room, &gone_len, &value);
         CHECK(code == BUCKET_OK || code == BUCKET_EVICTED);
@@ -307,7 +307,8 @@ static int recent_texts(bucket_seed seed) {
     return 0;
 }
 
-// A pointer is null beside the length or the room 0, as that of an empty std::string_view; a pointer to a call allows it too.
+// A pointer may be null if its length or room is 0, as that of an empty std::string_view, also in a call through a pointer to the
+// function.
 static int null_texts(bucket_seed seed) {
     uint32_t (*contains)(const bucket_handle *, const uint8_t *, size_t) = bucket_text_map_contains;
     bucket_handle map = BUCKET_HANDLE, set = BUCKET_HANDLE;
@@ -380,6 +381,6 @@ int main(void) {
             return 1;
         }
     }
-    puts("each call, with each code: right");
+    puts("each call, with each code: correct");
     return 0;
 }

@@ -1,4 +1,4 @@
-// Drops the code of each call that answers one. A compiler warns of each line that has a call.
+// Drops the code of each call that returns one. A compiler warns at each line with a call.
 #include "bucket.h"
 
 void drop(bucket_handle *handle, bucket_seed seed, uint64_t *word, uint64_t *other);

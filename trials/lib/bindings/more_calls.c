@@ -1,5 +1,6 @@
-// Makes the calls of sets of words, stores, counters, readings of pairs and removals of many, with each code that they can answer
-// but NO_MEMORY, and every call on a handle of another kind. Exits with 1 at the first check that fails, or 0. C and C++ read it.
+// Makes the calls of sets of words, stores, counters, readings of pairs and removals of many, with each code that they can return
+// except NO_MEMORY, and every call on a handle of another kind. Exits with 1 at the first check that fails, otherwise with 0. It is
+// both C and C++.
 #include "bucket.h"
 
 #include <stdio.h>
@@ -61,7 +62,7 @@ static uint32_t has(int kind, const bucket_handle *handle, uint64_t number) {
     }
 }
 
-// What calls write out: no byte of it changes where a handle is closed, or holds another kind.
+// What calls write out: no byte of it changes if a handle is closed, or holds another kind.
 typedef struct outputs {
     uint64_t word, other;
     size_t size;
@@ -171,7 +172,7 @@ static int refuse_readings(int kind, bucket_handle *handle, uint32_t code, outpu
     return 0;
 }
 
-// Every call of another kind answers so, and writes nothing out. No call opens a handle that is open.
+// Every call of another kind returns that code, and writes nothing out. No call opens a handle that is open.
 static int refuse(int kind, bucket_handle *handle) {
     const outputs before = {77, 78, 79, {0, 0}, {5, 6}, {7, 8}, {1, 2, 3, 4, 5, 6, 7, 8}};
     outputs out = before;
@@ -198,7 +199,7 @@ static int closed(void) {
 
 static bool is_power(size_t slots) { return slots > 0 && (slots & (slots - 1)) == 0; }
 
-// What handles of each kind take.
+// What handles of each kind accept.
 static int each_kind(int kind, bucket_seed seed) {
     bool is_cache = kind == CACHE || kind == TEXT_CACHE;
     bucket_handle handle = BUCKET_HANDLE;
@@ -286,7 +287,7 @@ static int sets(bucket_seed seed) {
     return 0;
 }
 
-// A value under a key is this one: written out to a room that is long enough, else its front and its whole length.
+// A key has this value: it is written out if the room is long enough, otherwise its first bytes and its whole length.
 static int is_stored(const bucket_handle *store, const uint8_t *key, size_t len, const char *value) {
     size_t value_len = strlen(value);
     for (size_t room = 0; room <= value_len + 1; room++) {
@@ -321,7 +322,7 @@ static int stores(bucket_seed seed, const uint8_t *key, size_t len) {
     CHECK(bucket_store_contains(&store, key, len) == BUCKET_ABSENT && bucket_len(&store) == 1);
     CHECK(bucket_store_upsert(&store, key, len, text("c"), 1) == BUCKET_OK && is_stored(&store, key, len, "c") == 0);
     CHECK(is_stored(&store, text("other"), 5, "long") == 0 && bucket_len(&store) == 2);
-    // The store has copies of its own.
+    // The store keeps its own copies.
     uint8_t name[8] = "name";
     CHECK(bucket_store_insert(&store, name, 4, name, 4) == BUCKET_OK);
     memset(name, 'x', sizeof name);
@@ -330,7 +331,7 @@ static int stores(bucket_seed seed, const uint8_t *key, size_t len) {
     return 0;
 }
 
-// The pairs that were read are all that the collection has, each once.
+// The pairs that were read are all pairs of the collection, each once.
 static int is_all(int kind, const bucket_handle *handle, const bucket_pair *pairs, size_t count) {
     static bool seen[ENTRIES];
     memset(seen, 0, sizeof seen);
@@ -345,7 +346,7 @@ static int is_all(int kind, const bucket_handle *handle, const bucket_pair *pair
     return 0;
 }
 
-// Pairs, in the order in which they came.
+// Pairs, in the order in which they were read.
 typedef struct visited {
     bucket_pair pairs[2 * ENTRIES + 99];
     size_t count;
@@ -360,7 +361,7 @@ static void visit(uint64_t key, uint64_t value, void *data) {
     to->count++;
 }
 
-// Reads all pairs by each of the four calls, three of them in pieces of so many.
+// Reads all pairs with each of the four calls, three of them in pieces of this size.
 static int reads(int kind, const bucket_handle *handle, size_t room) {
     static bucket_pair pairs[2 * ENTRIES + 99], again[2 * ENTRIES + 99];
     static uint64_t values[2 * ENTRIES + 99];
@@ -387,7 +388,7 @@ static int reads(int kind, const bucket_handle *handle, size_t room) {
     return is_all(kind, handle, pairs, read);
 }
 
-// A room of 0, also by a null pointer, and places behind all pairs.
+// A room of 0, also with a null pointer, and places past all pairs.
 static int edges(const bucket_handle *handle) {
     bool is_empty = bucket_len(handle) == 0;
     bucket_place place = BUCKET_START, past = {SIZE_MAX, SIZE_MAX}, in_first = {0, SIZE_MAX};
@@ -405,7 +406,7 @@ static int edges(const bucket_handle *handle) {
         CHECK(bucket_pairs_in(handle, 0, SIZE_MAX, &pair, room, &count[3]) == first && count[3] == 0);
     }
     CHECK(pair.key == 5 && pair.value == 6 && value == 7);
-    // Behind the pairs of the first bucket, the others' are read.
+    // After the pairs of the first bucket, those of the others are read.
     uint32_t code = bucket_read(handle, &in_first, &pair, 1, &a);
     CHECK(code == BUCKET_OK ? a == 1 && in_first.bucket > 0 : code == BUCKET_ABSENT && a == 0);
     return 0;
@@ -418,7 +419,7 @@ static int readings(int kind, bucket_seed seed) {
     for (uint64_t number = 0; number < ENTRIES; number++) {
         CHECK(put(kind, &handle, number) % BUCKET_EVICTED == BUCKET_OK);
         if (number % 16 == 15) {
-            // In most rounds an old array stands, at first with all of its buckets.
+            // In most rounds there is an old array, at first with all of its buckets.
             CHECK(edges(&handle) == 0 && reads(kind, &handle, rooms[number / 16 % 7]) == 0);
         }
     }
@@ -436,7 +437,7 @@ static void destroy(uint64_t value) {
     destroyed++;
 }
 
-// Each value is destroyed once, in the order of a reading, and the handle is closed then.
+// Each value is destroyed once, in the order of a reading, and then the handle is closed.
 static int destroys(int kind, bucket_seed seed, uint64_t entries) {
     static uint64_t values[ENTRIES];
     bucket_handle handle = BUCKET_HANDLE;
@@ -455,7 +456,7 @@ static int destroys(int kind, bucket_seed seed, uint64_t entries) {
     return 0;
 }
 
-// What a test is asked about: the keys of which a number divides what is added. It looks up in the handle.
+// The test of a removal: it removes the keys which, with `added`, are multiples of `divisor`. It looks them up in the handle.
 typedef struct question {
     const bucket_handle *handle;
     int kind;
@@ -476,7 +477,7 @@ static bool ask(uint64_t key, uint64_t value, void *data) {
     return passes(asking, key);
 }
 
-// A test is asked once for each pair, before any goes; those that it says yes to go, and no others.
+// A test is called once for each pair, before any is removed; exactly those for which it is true are removed.
 static int removes(int kind, bucket_seed seed, uint64_t entries, uint64_t divisor) {
     bucket_handle handle = BUCKET_HANDLE;
     question asking = {&handle, kind, 1, divisor, 0, 0, true};
@@ -499,7 +500,7 @@ static int removes(int kind, bucket_seed seed, uint64_t entries, uint64_t diviso
     return 0;
 }
 
-// With so many pairs that the block of keys is full, and one more or fewer.
+// With as many pairs as fill the block of keys, and with one more or fewer.
 static int of_many(bucket_seed seed) {
     static const uint64_t counts[] = {0, 1, 31, 32, 33, 63, 64, 65, 127, 128, 129, 1025, ENTRIES};
     for (size_t at = 0; at < sizeof counts / sizeof *counts; at++) {
@@ -528,6 +529,6 @@ int main(void) {
             }
         }
     }
-    puts("each reading, counter, set, store and removal of many, with each code: right");
+    puts("each reading, counter, set, store and removal of many, with each code: correct");
     return 0;
 }

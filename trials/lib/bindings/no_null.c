@@ -1,5 +1,5 @@
-// Stands between a program and the calls that take a length, and ends with 1 where one of them gets a null pointer. Link with
-// -Wl,--wrap= each name below.
+// Wraps the calls that take a length, and exits with 1 if one of them gets a null pointer. Link with -Wl,--wrap= for each name
+// below.
 #include "bucket.h"
 
 #include <stdio.h>
@@ -10,7 +10,7 @@
     uint32_t __wrap_##name parameters;                    \
     uint32_t __wrap_##name parameters {                   \
         if (!(are_pointers)) {                            \
-            puts("a null pointer comes to " #name);       \
+            puts("a null pointer reaches " #name);       \
             exit(1);                                      \
         }                                                 \
         return __real_##name arguments;                   \

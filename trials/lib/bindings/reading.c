@@ -1,5 +1,5 @@
-// Reads all pairs of each kind whose keys are byte strings, bucket by bucket and by a place, into buffers of several lengths.
-// Exits with 1 at the first check that fails, or 0. C and C++ read it.
+// Reads all pairs of each kind whose keys are byte strings, bucket by bucket and from a place, into buffers of several lengths.
+// Exits with 1 at the first check that fails, otherwise with 0. It is both C and C++.
 #include "bucket.h"
 
 #include <stdio.h>
@@ -19,7 +19,7 @@
 
 enum kinds { TEXT_MAP, TEXT_SET, TEXT_CACHE, STORE, KINDS };
 
-// The key of a number, of 0 to LONGEST bytes: the number in decimal, behind as many dots as it says.
+// Makes the key of a number, of 0 to LONGEST bytes: dots, as many as the number determines, and then the number in decimal.
 static size_t key_of(size_t number, uint8_t *key) {
     char digits[24];
     size_t dots = number % 37, len = (size_t)snprintf(digits, sizeof digits, "%zu", number);
@@ -55,7 +55,7 @@ static uint32_t put(int kind, bucket_handle *handle, size_t number) {
     }
 }
 
-// Marks the pairs that were read: each is one that was put, with its value, and is read once.
+// Notes the pairs that were read: each is one that was put, with its value, and is read once.
 static int mark(int kind, const bucket_text_pair *rows, const uint8_t *bytes, size_t count, uint8_t *seen) {
     for (size_t row = 0; row < count; bytes += rows[row].len, row++) {
         uint8_t key[LONGEST];
@@ -87,7 +87,7 @@ static void count_pair(uint64_t key, uint64_t value, void *count) {
     *(size_t *)count += key == 0 && value < ENTRIES + 7000 ? 1 : 0;
 }
 
-// All pairs by a place, with so many rows and bytes a call.
+// Reads all pairs from a place, with this many rows and bytes per call.
 static int read_by_place(int kind, const bucket_handle *handle, size_t room, size_t bytes_room) {
     static uint8_t bytes[ENTRIES * LONGEST];
     static bucket_text_pair rows[ENTRIES];
@@ -107,7 +107,7 @@ static int read_by_place(int kind, const bucket_handle *handle, size_t room, siz
     return 0;
 }
 
-// Each bucket's pairs one after another, and at the end none.
+// Reads the pairs of each bucket in turn, and at the end none.
 static int read_by_bucket(int kind, const bucket_handle *handle) {
     uint8_t bytes[LONGEST], seen[ENTRIES] = {0};
     bucket_text_pair row;
@@ -131,7 +131,7 @@ static int read_by_bucket(int kind, const bucket_handle *handle) {
     return 0;
 }
 
-// A key that is longer than the buffer stops the reading there, with nothing written, until the buffer is longer.
+// A key that is longer than the buffer stops the reading, with nothing written, until the buffer is long enough.
 static int longer_keys(void) {
     bucket_handle map = BUCKET_HANDLE;
     bucket_seed seed = {3, 4};
@@ -172,6 +172,6 @@ int main(void) {
         bucket_free(&handle);
     }
     CHECK(longer_keys() == 0);
-    printf("%d pairs of %d kinds are read by place and by bucket, each once\n", ENTRIES, KINDS);
+    printf("%d pairs of %d kinds are read from a place and by bucket, each once\n", ENTRIES, KINDS);
     return 0;
 }

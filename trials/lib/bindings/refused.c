@@ -1,5 +1,5 @@
-// Refuses each allocation in turn, and all after it, and exits with 1 where a call answers by anything but NO_MEMORY,
-// a pair is lost, or memory isn't given back. Link with -Wl,--wrap=malloc,--wrap=realloc,--wrap=free.
+// Makes each allocation in turn fail, and all after it. Exits with 1 if a call then returns anything but NO_MEMORY, a pair is
+// lost, or memory isn't freed. Link with -Wl,--wrap=malloc,--wrap=realloc,--wrap=free.
 #include "bucket.h"
 
 #include <stdio.h>
@@ -44,7 +44,7 @@ void __wrap_free(void *block) {
 
 enum kind { MAP, TEXT_MAP, SET, TEXT_SET, STORE, CACHE, TEXT_CACHE, KINDS };
 
-// What a look-up answers here where the value isn't the one that was put.
+// What a look-up returns here if the value isn't the one that was put.
 enum { WRONG = 99 };
 
 static uint32_t open_kind(enum kind kind, bucket_handle *handle) {
@@ -60,7 +60,7 @@ static uint32_t open_kind(enum kind kind, bucket_handle *handle) {
     }
 }
 
-// The four calls that put a pair to a map, in turn. One that is there stays as it is.
+// The four calls that put a pair into a map, in turn. A present pair stays as it is.
 static uint32_t put_map(bucket_handle *handle, uint64_t key, bool is_there) {
     uint64_t word;
     switch (key % 4) {
@@ -82,7 +82,7 @@ static uint32_t put_text_map(bucket_handle *handle, uint64_t key, bool is_there)
     }
 }
 
-// Puts a pair by one of its kind's calls: PRESENT if the key is there, and then no memory is wanted.
+// Puts a pair with one of its kind's calls: PRESENT if the key is present, and then nothing is allocated.
 static uint32_t put(enum kind kind, bucket_handle *handle, uint64_t key, bool is_there) {
     const uint8_t *bytes = (const uint8_t *)&key;
     uint8_t gone[8];
@@ -104,7 +104,7 @@ static uint32_t put(enum kind kind, bucket_handle *handle, uint64_t key, bool is
     }
 }
 
-// Looks a key up, and its value, if the kind has values.
+// Looks up a key, and its value if the kind has values.
 static uint32_t has(enum kind kind, const bucket_handle *handle, uint64_t key) {
     const uint8_t *bytes = (const uint8_t *)&key;
     uint64_t word = key;
@@ -138,7 +138,7 @@ static uint32_t take(enum kind kind, bucket_handle *handle, uint64_t key) {
     }
 }
 
-// A reading of all pairs takes no memory, and gives as many as there are.
+// Reading all pairs allocates nothing, and returns as many as there are.
 static bool reads_all(const bucket_handle *handle) {
     size_t bucket = 0, all = 0, count = 0;
     bucket_pair pairs[64];
@@ -149,7 +149,7 @@ static bool reads_all(const bucket_handle *handle) {
     return all == bucket_len(handle);
 }
 
-// The keys below `end` that were put are there, and no others. To put one of them again takes no memory.
+// The keys below `end` that were put are present, and no others. Putting one of them again allocates nothing.
 static bool holds(enum kind kind, bucket_handle *handle, const bool *is_in, uint64_t end, size_t in) {
     if (bucket_len(handle) != in || !reads_all(handle)) {
         return false;
@@ -163,7 +163,7 @@ static bool holds(enum kind kind, bucket_handle *handle, const bool *is_in, uint
     return bucket_len(handle) == in;
 }
 
-// Removals go on without memory; then memory is back, and nothing is left. Where pairs were evicted, any key may be gone.
+// Removals work without memory; then memory is back, and nothing is left. If pairs were evicted, any key may be absent.
 static bool removes(enum kind kind, bucket_handle *handle, const bool *is_in, bool has_evicted) {
     for (uint64_t key = 0; key < ENTRIES; key++) {
         uint32_t code = take(kind, handle, key);
@@ -180,15 +180,15 @@ static bool removes(enum kind kind, bucket_handle *handle, const bool *is_in, bo
     return true;
 }
 
-// Memory is back, and the handle is freed: all blocks are given back. Returns 1 where an allocation was refused, 0 where none was,
-// -1 if something was wrong.
+// Memory is back, and the handle is freed, and so are all blocks. Returns 1 if an allocation failed, 0 if none did, -1 if something
+// was wrong.
 static int ended(bucket_handle *handle, bool is_right, bool was_refused) {
     left = SIZE_MAX;
     bucket_free(handle);
     return is_right && held == 0 ? was_refused : -1;
 }
 
-// Puts keys with the allocation at `at` and all after it refused. Returns as `ended`.
+// Puts keys while the allocation at `at` and all after it fail. Returns as `ended`.
 static int run(enum kind kind, size_t at) {
     static bool is_in[ENTRIES];
     bucket_handle handle = BUCKET_HANDLE;
@@ -210,7 +210,7 @@ static int run(enum kind kind, size_t at) {
         } else if (first == ENTRIES) {
             first = key;
         }
-        // Nothing is lost right after the first refusal, nor at the end.
+        // No pair is lost, neither right after the first failure nor at the end.
         bool is_asked = evicted == 0 && (key == first || key + 1 == ENTRIES);
         if (bucket_len(&handle) + evicted != in || (is_asked && !holds(kind, &handle, is_in, key + 1, in))) {
             return ended(&handle, false, true);
@@ -219,7 +219,7 @@ static int run(enum kind kind, size_t at) {
     return ended(&handle, removes(kind, &handle, is_in, evicted > 0), first < ENTRIES);
 }
 
-// Opens a handle, and puts so many keys. Whether all are in.
+// Opens a handle, puts this many keys, and returns whether all were inserted.
 static bool fill(enum kind kind, bucket_handle *handle, uint64_t entries) {
     bool are_in = open_kind(kind, handle) == BUCKET_OK;
     for (uint64_t key = 0; key < entries; key++) {
@@ -228,7 +228,7 @@ static bool fill(enum kind kind, bucket_handle *handle, uint64_t entries) {
     return are_in;
 }
 
-// Puts longer values to a store in the place of those that are there, as run. One that is refused leaves the value that was there.
+// Puts longer values into a store in place of the present ones, as run. If one fails, the earlier value stays.
 static int run_values(size_t at) {
     static const uint8_t longer[40] = {1, 2, 3};
     bucket_handle handle = BUCKET_HANDLE;
@@ -253,7 +253,7 @@ static bool is_odd(uint64_t key, uint64_t value, void *data) {
     return key % 2 == 1;
 }
 
-// Removes all odd keys by one call, as run. Where it is refused, all stay.
+// Removes all odd keys with one call, as run. If that fails, all stay.
 static int run_removals(enum kind kind, size_t at) {
     static bool is_in[ENTRIES];
     bucket_handle handle = BUCKET_HANDLE;
@@ -274,9 +274,9 @@ static int run_removals(enum kind kind, size_t at) {
 
 int main(void) {
     size_t all = 0;
-    // Behind the kinds: the values of a store, and the removals of many of a map and of a set.
+    // The rows after the kinds: the values of a store, and the removals of many from a map and from a set.
     for (int row = 0; row < KINDS + 3; row++) {
-        // Of a kind with byte strings, the later allocations are mostly copies of keys: every 37th of those.
+        // In a kind with byte strings, the later allocations are mostly copies of keys, so only every 37th fails.
         bool has_texts = row == TEXT_MAP || row == TEXT_SET || row == STORE || row == TEXT_CACHE;
         int found = 1;
         for (size_t at = 0; found == 1; at += has_texts && at > 200 ? 37 : 1, all++) {
@@ -285,10 +285,10 @@ int main(void) {
                                 : run_removals(row == KINDS + 1 ? MAP : SET, at);
         }
         if (found != 0) {
-            printf("row %d: wrong where an allocation was refused\n", row);
+            printf("row %d: wrong after a failed allocation\n", row);
             return 1;
         }
     }
-    printf("%zu allocations refused in turn: every answer right\n", all);
+    printf("%zu allocations failed in turn: every answer is correct\n", all);
     return 0;
 }

@@ -1,9 +1,9 @@
 # For packages.sh to source: installs each package in an empty folder, and runs programs with it.
 #
-#   make_bare_path       makes a folder of all commands on the PATH but rt and rattle
-#   bare COMMAND..       runs a command with that PATH, and little else of the environment
-#   collect_programs     takes the programs out of $page and README, and what their comments say
-#   play_tarball, play_debian, play_crate, play_wheel    install a package, and say what they leave out
+#   make_bare_path       makes a folder of all commands on the PATH except rt and rattle
+#   bare COMMAND..       runs a command with that PATH, and little else in the environment
+#   collect_programs     extracts the programs of $page and README, and what their comments say
+#   play_tarball, play_debian, play_crate, play_wheel    install a package, and print what they leave out
 #
 # $runs counts the programs that ran, and $played the commands of $page.
 
@@ -14,7 +14,7 @@ make_bare_path() {
         ln -s "$place"/* "$folder/bin" 2>"$folder/log"
     done < <(tr : '\n' <<<"$PATH")
     rm -f "$folder"/bin/{rt,rattle,sudo}
-    # What sudo installs goes to the folder SYSTEM, by dpkg where its caller may.
+    # This sudo installs to the folder SYSTEM, with dpkg if it runs as root.
     cat >"$folder/bin/sudo" <<'END'
 #!/bin/sh
 if [ "$(id -u)" = 0 ]; then
@@ -25,7 +25,7 @@ END
     chmod +x "$folder/bin/sudo"
 }
 
-# What the environment has besides: NAME=VALUE.
+# More variables of that environment: NAME=VALUE.
 around=()
 
 bare() {
@@ -37,8 +37,8 @@ bare() {
         PYTHONDONTWRITEBYTECODE=1 "${around[@]}" "$@"
 }
 
-# The page has whole programs. README, where it has some, shows what stands in a `main`; its first two blocks
-# of Rust are of Rattle.
+# The page has whole programs. README's, if it has some, are the bodies of a `main`; its first two blocks of
+# Rust are Rattle.
 collect_programs() {
     local pair program
     runs=0
@@ -53,55 +53,55 @@ collect_programs() {
     find "$folder/programs" -size 0 -name 'readme.*' -delete
     for program in "$folder"/programs/*; do
         program=${program##*/}
-        sed -n 's@^.*\(//\|#\) prints @@p' "$folder/programs/$program" >"$folder/told.$program"
-        [ -s "$folder/told.$program" ] || fail "$program doesn't say what it prints"
+        sed -n 's@^.*\(//\|#\) prints @@p' "$folder/programs/$program" >"$folder/expected.$program"
+        [ -s "$folder/expected.$program" ] || fail "$program has no comment that says what it prints"
     done
 }
 
-# in_main LANGUAGE NUMBER BEFORE AFTER: a block of README between these lines, or nothing.
+# in_main LANGUAGE NUMBER BEFORE AFTER: prints a block of README between these lines, or nothing.
 in_main() {
     local text
     text=$(block README.md "$1" "$2")
     [ -z "$text" ] || printf '%s\n' "$3" "$text" "$4"
 }
 
-# The names of the programs of a suffix.
+# Prints the names of the programs with a suffix.
 named() {
     (cd "$folder/programs" && ls -- *."$1")
 }
 
-# prints PROGRAM: the last lines of the output have to be what the program's comments say.
+# prints PROGRAM: the last lines of the output must be what the program's comments say.
 prints() {
-    tail -n "$(wc -l <"$folder/told.$1")" "$folder/output" | diff "$folder/told.$1" - >"$folder/log" ||
-        fail "$1 by the $what: told (<) and printed (>) differ"
+    tail -n "$(wc -l <"$folder/expected.$1")" "$folder/output" | diff "$folder/expected.$1" - >"$folder/log" ||
+        fail "$1, installed from the $what: its comments (<) and its output (>) differ"
     runs=$((runs + 1))
 }
 
-# run_prints PROGRAM COMMAND..: runs it.
+# run_prints PROGRAM COMMAND..: runs the command, whose output must be what the program's comments say.
 run_prints() {
     local program=$1
     shift
-    bare "$@" >"$folder/output" 2>"$folder/log" </dev/null || fail "$program by the $what failed"
+    bare "$@" >"$folder/output" 2>"$folder/log" </dev/null || fail "$program, installed from the $what, failed"
     prints "$program"
 }
 
-# links PROGRAM WORD..: compiles a program of C or C++ with these words, and runs it.
+# links PROGRAM WORD..: compiles a program in C or C++ with these arguments, and runs it.
 links() {
     local program=$1 compiler=(cc)
     shift
     [ "${program#*.}" = c ] || compiler=(c++ -std=c++17)
     bare "${compiler[@]}" -Wall -Wextra -Werror "$folder/programs/$program" "$@" -o "$folder/linked" \
-        >"$folder/output" 2>"$folder/log" || fail "$program by the $what doesn't compile"
+        >"$folder/output" 2>"$folder/log" || fail "$program, installed from the $what, doesn't compile"
     run_prints "$program" "$folder/linked"
 }
 
-# The programs of C, and those of C++ where that is there.
+# Prints the programs in C, and those in C++ if there is a compiler.
 linked_programs() {
     named c
     ! command -v c++ >"$folder/log" || named cpp
 }
 
-# begin WHAT PACKAGE: an empty folder with the package, if it was made.
+# begin WHAT PACKAGE: makes an empty folder with the package, if that was made.
 begin() {
     what=$1
     place=$folder/${1// /_}
@@ -112,7 +112,8 @@ begin() {
     }
 }
 
-# play_page NUMBER FILE: plays a block of the page at that folder, with each program of the file's language as it.
+# play_page NUMBER FILE: runs a block of the page in that folder, once with each program of the file's
+# language as FILE.
 play_page() {
     local program
     commands "$page" "$1" >"$folder/commands"
@@ -125,7 +126,7 @@ play_page() {
     played=$((${played:-0} + $(wc -l <"$folder/commands")))
 }
 
-# exports LIBRARY..: each has to export what the header declares, and nothing else.
+# exports LIBRARY..: each must export what the header declares, and nothing else.
 exports() {
     local library symbols
     declared "$root/bindings/bucket.h" >"$folder/declared"
@@ -141,7 +142,7 @@ is_hardened() {
     readelf -dlW "$1" >"$folder/output"
     grep -q 'BIND_NOW' "$folder/output" && grep -q 'GNU_RELRO' "$folder/output" &&
         grep -q 'GNU_STACK.* RW ' "$folder/output" && grep -q 'SONAME.*\[libbucket.so.'"${version%%.*}"'\]' "$folder/output" ||
-        fail "$1 isn't hardened, or has no soname"
+        fail "$1 isn't hardened, or lacks its soname"
 }
 
 play_tarball() {
@@ -152,7 +153,7 @@ play_tarball() {
     is_hardened "$prefix/lib/libbucket.so"
     around=("PKG_CONFIG_PATH=$prefix/lib/pkgconfig")
     if is_there pkg-config "pkg-config"; then
-        bare pkg-config --exact-version="$version" bucket || fail "bucket.pc has another version"
+        bare pkg-config --exact-version="$version" bucket || fail "bucket.pc has a wrong version"
         read -ra words < <(bare pkg-config --cflags --libs bucket)
     fi
     for program in $(linked_programs); do
@@ -172,8 +173,8 @@ play_cmake() {
     cp "$folder/programs/page.c" "$place/mine.c"
     cp "$folder/programs/page.cpp" "$place/mine.cpp"
     bare cmake -S "$place" -B "$place/made" "-DVERSION=$version" "-DCMAKE_PREFIX_PATH=$1" \
-        >"$folder/output" 2>"$folder/log" || fail "CMake finds no bucket"
-    bare cmake --build "$place/made" >"$folder/output" 2>"$folder/log" || fail "CMake builds nothing"
+        >"$folder/output" 2>"$folder/log" || fail "CMake doesn't find bucket"
+    bare cmake --build "$place/made" >"$folder/output" 2>"$folder/log" || fail "CMake can't build the programs"
     for program in c c_static cpp cpp_static; do
         run_prints "page.${program%_static}" "$place/made/$program"
     done
@@ -197,17 +198,17 @@ play_debian() {
     done
     around=()
     if [ "$(id -u)" != 0 ]; then
-        echo "left out: dpkg -i, since it takes root"
+        echo "left out: dpkg -i, since it needs root"
     fi
     if is_there lintian lintian; then
-        bare lintian --fail-on error "$package" >"$folder/output" 2>"$folder/log" || fail "lintian finds an error"
+        bare lintian --fail-on error "$package" >"$folder/output" 2>"$folder/log" || fail "lintian reports an error"
     fi
 }
 
 play_crate() {
     begin crate "bucket-$version.crate" || return
     local other=$place/other program package
-    bare cargo init --quiet --vcs none --name mine "$place/mine" 2>"$folder/log" || fail "no crate is made"
+    bare cargo init --quiet --vcs none --name mine "$place/mine" 2>"$folder/log" || fail "cargo init failed"
     play_page 3 mine/src/main.rs
     what="vendored crate"
     package=$other/vendor/bucket-$version
@@ -234,7 +235,7 @@ play_wheel() {
         around=("PIP_TARGET=$place/site" "PYTHONPATH=$place/site")
         play_page 4 mine.py
     fi
-    what="wheel, unpacked"
+    what="unpacked wheel"
     python3 -m zipfile -e "$place"/bucket-*.whl "$place/unpacked"
     around=("PYTHONPATH=$place/unpacked")
     for program in $(named py); do

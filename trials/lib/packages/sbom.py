@@ -1,4 +1,4 @@
-"""Whether the SBOM of a folder is an SPDX document with the sums of all packages there.
+"""Checks that the SBOM of a folder is an SPDX document with the checksums of all packages there.
 
 usage: sbom.py FOLDER NAME
 """
@@ -10,13 +10,13 @@ import sys
 
 folder, name = pathlib.Path(sys.argv[1]), sys.argv[2]
 document = json.loads((folder / name).read_text())
-assert document["spdxVersion"] == "SPDX-2.3" and document["dataLicense"] == "CC0-1.0", "no SPDX 2.3"
+assert document["spdxVersion"] == "SPDX-2.3" and document["dataLicense"] == "CC0-1.0", "it isn't SPDX 2.3"
 
 sums = dict(reversed(line.split()) for line in (folder / "SHA256SUMS").read_text().splitlines())
-assert sums.pop(name), "SHA256SUMS has no SBOM"
+assert sums.pop(name), "the SBOM isn't in SHA256SUMS"
 packages = {package["packageFileName"]: package for package in document["packages"] if "packageFileName" in package}
-told = {file: package["checksums"][0]["checksumValue"] for file, package in packages.items()}
-assert told == sums, f"told {told}, and there are {sums}"
+stated = {file: package["checksums"][0]["checksumValue"] for file, package in packages.items()}
+assert stated == sums, f"it states {stated}, but SHA256SUMS has {sums}"
 for file, package in packages.items():
     assert package["licenseConcluded"] == package["licenseDeclared"] == "Apache-2.0", f"the licence of {file}"
     assert re.match(r"git commit [0-9a-f]{40}|sources without a commit", package["sourceInfo"]), package["sourceInfo"]
@@ -26,7 +26,7 @@ assert all(re.search(r"logic [0-9a-f]+$", kit) for kit in kits), f"a kit without
 
 elements = [document, *document["packages"], *document["files"]]
 names = [element["SPDXID"] for element in elements]
-assert len(set(names)) == len(names), "a name stands twice"
+assert len(set(names)) == len(names), "a name occurs twice"
 for name in names:
     assert re.fullmatch(r"SPDXRef-[A-Za-z0-9.-]+", name), name
 for relation in document["relationships"]:

@@ -1,46 +1,44 @@
 #!/usr/bin/env bash
-# Calls ./bhtable and ./check with each option that runs no program, with words that they don't know,
-# and where there is no rt: what is on standard output and standard error, and the status. The commit
-# that `--version` prints is that of a repository made for this.
+# Calls ./bhtable and ./check with each option that runs no program, with unknown options, and without
+# rt on the PATH, and checks the output, the messages and the exit status. A repository made here has
+# the commit that `--version` prints.
 #
-# Needs no proof.
-#
-# Needs rt and git on the PATH. Ends with status 0 where all was right, else with 1.
+# Needs rt and git on the PATH. The exit status is 0 if all checks passed, otherwise 1.
 set -u
-source "$(dirname "${BASH_SOURCE[0]}")/lib/running.sh"
+source "$(dirname "${BASH_SOURCE[0]}")/../trials/lib/running.sh"
 need_rt
 copy=$folder/copy
 copy_repository "$copy"
 
-# called STATUS COMMAND WORD..: calls a command of the copy, whose status has to be that, within a few
-# seconds. It gets no line.
+# called STATUS COMMAND WORD..: calls a command of the copy, with empty input. It must end within
+# 20 seconds, with that status.
 count=0
 called() {
-    local wanted=$1 status
+    local expected=$1 status
     shift
     timeout 20 "$copy/$1" "${@:2}" </dev/null >"$folder/output" 2>"$folder/log"
     status=$?
-    [ "$status" = "$wanted" ] || fail "$*: status $status in place of $wanted"
+    [ "$status" = "$expected" ] || fail "$*: the status is $status, not $expected"
     count=$((count + 1))
 }
 
-# says FILE TEXT..: the last call's output, or log, has these texts, and the other of the two is empty.
+# says FILE TEXT..: of the last call's output and log, FILE has these texts, and the other is empty.
 says() {
     local other=log text
     [ "$1" = output ] || other=output
     for text in "${@:2}"; do
-        grep -qF -- "$text" "$folder/$1" || fail "nothing there says: $text"
+        grep -qF -- "$text" "$folder/$1" || fail "the text is missing: $text"
     done
-    [ ! -s "$folder/$other" ] || fail "it wrote to both outputs"
+    [ ! -s "$folder/$other" ] || fail "it wrote to standard output and to standard error"
 }
 
-# commit_in FOLDER NAME: an empty commit, the first one in a repository made for it.
+# commit_in FOLDER NAME: makes a repository and an empty first commit there.
 commit_in() {
     git init -q "$1" && in_repository "$1" commit -q --allow-empty -m "$2" || exit 1
 }
 
 in_repository() {
-    git -C "$1" -c user.name=trial -c user.email=trial@localhost "${@:2}"
+    git -C "$1" -c user.name=lint -c user.email=lint@localhost "${@:2}"
 }
 
 called 0 bhtable --help
@@ -59,7 +57,7 @@ says log --fast
 called 1 check --quick --fast
 says log --fast
 
-# A copy that has no repository of its own has no commit, also below another repository.
+# A copy without a repository of its own has no commit, even inside another repository.
 commit_in "$folder" outer
 called 0 bhtable --version
 says output "commit unknown" "kit $(rt version)"
@@ -71,7 +69,7 @@ commit_in "$copy" third
 called 0 bhtable --version
 says output "commit v2-1-g$(git -C "$copy" rev-parse --short HEAD)"
 
-# Without rt: the folder has the tools that the commands call, and no other.
+# Without rt: the folder has only the tools that the commands call.
 mkdir "$folder/tools"
 for tool in bash cat dirname find git readlink timeout; do
     ln -s "$(command -v "$tool")" "$folder/tools/$tool" || exit 1

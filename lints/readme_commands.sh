@@ -1,15 +1,13 @@
 #!/usr/bin/env bash
-# Plays the shell commands of README and of docs/bhtable.md in a copy of the repository where nothing
-# is built: `./bhtable`, whose replies have to be those that README and its page show, and README's
-# example, which has to print what its comments say. README's set and cache are run too, and its
-# clauses have to be those of the function that it names. It passes too where the example's crate was
-# added to the repository, as README says.
+# Runs the shell commands of README and of docs/bhtable.md in an unbuilt copy of the repository: the
+# replies of `./bhtable` must be those that the two pages show, and README's example must print what
+# its comments say. README's set and cache are run too, and its clauses must be those of the function
+# that it names. This also passes if the example's crate was added to the repository, as README
+# describes.
 #
-# Needs no proof.
-#
-# Needs rt on the PATH. Ends with status 0 where every command was right, else with 1.
+# Needs rt on the PATH. The exit status is 0 if every command was right, otherwise 1.
 set -u
-source "$(dirname "${BASH_SOURCE[0]}")/lib/running.sh"
+source "$(dirname "${BASH_SOURCE[0]}")/../trials/lib/running.sh"
 source "$root/trials/lib/documents.sh"
 need_rt
 copy=$folder/copy
@@ -18,12 +16,12 @@ copy_repository "$copy"
 rm -rf "$copy/crates/ages"
 sed -i '/^ages:/d' "$copy/crates.txt"
 
-# printed: standard input has to be what the last command wrote.
+# printed WHAT: standard input must equal what the last command wrote.
 printed() {
     diff - "$folder/output" >"$folder/log" || fail "$1: shown (<) and printed (>) differ"
 }
 
-# The clauses, each a line of the file that README links before them.
+# Each line of the clauses must be in the file that README links before them.
 file=$(sed -n 's/^\[`add(.*)`\](\([^)]*\)).*$/\1/p' "$root/README.md")
 [ -f "$root/$file" ] || fail "README names no file for its clauses"
 block README.md rattle 1 >"$folder/clauses"
@@ -32,22 +30,22 @@ while IFS= read -r line; do
     grep -qxF -- "$line" "$root/$file" || fail "$file has no line '$line'"
 done <"$folder/clauses"
 
-# `rt run` and `--prove` would prove the crates below anew in the copy, some 15 minutes: `./check`
-# proves and runs such programs, and bhtable_command.sh calls `--prove`. `./check --quick` runs this
-# trial.
+# Not run: `rt run` and `--prove` would prove the crates below again in the copy, for about 15
+# minutes, while `./check` proves and runs such programs, and trials/bhtable_command.sh calls
+# `--prove`; and `./check --quick` runs this lint.
 unplayed='./check --quick
 rt run'
 check_unplayed README.md
-[ "$(blocks README.md)" = 2 ] || fail "README has other than two blocks of commands"
+[ "$(blocks README.md)" = 2 ] || fail "README doesn't have two blocks of commands"
 play README.md 1 "$copy"
 sed -n 's/^- \[`bhtable`\].* here \(.*\), after .*$/\1/p' "$root/README.md" |
     grep -o '`[^`]*`' | tr -d '`' >"$folder/shown"
 [ "$(wc -l <"$folder/shown")" = 5 ] || fail "README doesn't show five replies"
 printed "README's lines for ./bhtable" <"$folder/shown"
 play README.md 2 "$copy"
-block README.md sh 2 | sed -n 's/^rt try.*: prints //p' | grep -o "'[^']*'" | tr -d "'" >"$folder/told"
-[ -s "$folder/told" ] || fail "README's example doesn't say what it prints"
-printed "README's example" <"$folder/told"
+block README.md sh 2 | sed -n 's/^rt try.*: prints //p' | grep -o "'[^']*'" | tr -d "'" >"$folder/expected"
+[ -s "$folder/expected" ] || fail "README's example doesn't say what it prints"
+printed "README's example" <"$folder/expected"
 
 # The set and the cache, in the main of the example's crate.
 block README.md rust 1 >"$folder/main"
@@ -58,9 +56,9 @@ block README.md rust 1 >"$folder/main"
 } >"$copy/crates/ages/src/main.rt"
 (cd "$copy/crates/ages" && rt try) >"$folder/output" 2>"$folder/log" </dev/null ||
     fail "README's set and cache failed"
-sed -n 's|^.*// prints \(.*\)$|\1|p' "$folder/main" >"$folder/told"
-[ -s "$folder/told" ] || fail "README's set and cache don't say what they print"
-printed "README's set and cache" <"$folder/told"
+sed -n 's|^.*// prints \(.*\)$|\1|p' "$folder/main" >"$folder/expected"
+[ -s "$folder/expected" ] || fail "README's set and cache don't say what they print"
+printed "README's set and cache" <"$folder/expected"
 
 # The lines of FILE, and their replies.
 page=docs/bhtable.md
@@ -73,4 +71,4 @@ for ((number = 1; number <= $(blocks "$page"); number++)); do
         printf '%s\n' ok ok present "value 0" "pair 1 0" | printed "./bhtable < FILE"
     fi
 done
-echo "README and $page: $played commands played"
+echo "README and $page: $played commands run"

@@ -1,8 +1,8 @@
-"""Finds what documents name and the repository hasn't. Called with the repository's root.
+"""Finds names in the documents that don't exist in the repository. Called with the repository's root.
 
-In each document: the files and the headings that it links; what stands in backticks and is a path, a
-file's name, or a definition as `File.name` or `File: name`, and names that follow it after a comma. And
-all documents together have at most WORDS words, as `wc -w` counts them.
+In each document it checks the linked files and headings, and in backticks: paths, file names,
+definitions as `File.name` or `File: name`, and names that follow one after a comma. All documents
+together may have at most WORDS words, as `wc -w` counts them.
 """
 
 import pathlib
@@ -12,16 +12,16 @@ import sys
 
 WORDS = 20_000
 
-# In backticks and no file of the repository: files of a kit, what is built, and a reader's own.
+# Names in backticks that are no files of the repository: a kit's files, build outputs, and a reader's own.
 ELSEWHERE = re.compile(r"rattle/.*|bindings/out/.*|crates/NAME/out|libbucket\.(?:a|so)|mine\.\w+|crates/ages(?:/.*)?")
 
 # A file's name, or a path below a folder of the repository.
 FILE = re.compile(r"[\w*./-]+\.(?:rt|antt|md|sh|py|rs|cpp|c|h|txt|svg|edit|gnuplot|toml)|(?:%s)/[\w*./-]*")
 
-# A definition: the file's path below specs/, and a name in it. Types' parameters are capitals.
+# A definition: the file's path below specs/, and a name in it. A name in capitals is a type parameter.
 DEFINITION = re.compile(r"((?:[A-Z]\w*/)*[A-Z]\w*[a-z]\w*)(?:: |\.)([A-Za-z]\w*)")
 
-# A definition, and behind commas more names of the same file.
+# A definition, followed after commas by more names of the same file.
 SERIES = re.compile(rf"`{DEFINITION.pattern}`((?:, `\w+`)*)")
 
 LINK = re.compile(r"\[[^]\n]*\]\(([^)\s]+)\)")
@@ -59,15 +59,13 @@ class Repository:
         return self.texts[file]
 
     def has(self, name):
-        """Whether a file or a folder is called so, or its path ends so. A star stands for any text, and
-        so does NAME.
-        """
+        """Whether the path of a file or a folder is `name`, or ends with it. A star and NAME match any text."""
         name = name.removeprefix("./").rstrip("/").replace("NAME", "*")
-        wanted = re.compile("(?:.*/)?" + re.escape(name).replace(r"\*", "[^/]*"))
-        return any(wanted.fullmatch(file) for file in [*self.files, *self.folders])
+        pattern = re.compile("(?:.*/)?" + re.escape(name).replace(r"\*", "[^/]*"))
+        return any(pattern.fullmatch(file) for file in [*self.files, *self.folders])
 
     def defines(self, file, name):
-        """Whether a specs file of that path has the name."""
+        """Whether a file in specs/ with that path contains the name."""
         paths = [path for path in self.files if "/specs/" in path and path.endswith(f"/{file}.antt")]
         return any(re.search(rf"\b{name}\b", self.text(path)) for path in paths)
 
@@ -76,11 +74,11 @@ class Repository:
         yield from self.link_faults(document, text)
         for name in re.findall(r"`([^`\n]+)`", text):
             if self.path.fullmatch(name) and not ELSEWHERE.fullmatch(name) and not self.has(name):
-                yield f"it names `{name}`, and there is no such file"
+                yield f"it names `{name}`, but there is no such file"
         for file, name, others in SERIES.findall(text):
             for name in [name, *re.findall(r"\w+", others)]:
                 if not self.path.fullmatch(f"{file}.{name}") and not self.defines(file, name):
-                    yield f"it names {name} of {file}, which specs/ hasn't"
+                    yield f"it names {name} of {file}, but specs/ has no such definition"
 
     def link_faults(self, document, text):
         here = pathlib.PurePosixPath(document).parent
@@ -90,9 +88,9 @@ class Repository:
             path, _, anchor = link.partition("#")
             target = resolved(here / path) if path else document
             if target not in self.files and target not in self.folders:
-                yield f"it links {link}, and there is no such file"
+                yield f"it links {link}, but there is no such file"
             elif anchor and anchor not in anchors(self.text(target)):
-                yield f"it links {link}, and there is no such heading"
+                yield f"it links {link}, but there is no such heading"
 
 
 def resolved(path):
@@ -114,7 +112,7 @@ def main(root):
         faults.append(f"the documents have {words} words; at most {WORDS} are allowed")
     if faults:
         sys.exit("\n".join(faults))
-    print(f"{len(repository.documents)} documents with {words} words name nothing that isn't there")
+    print(f"{len(repository.documents)} documents with {words} words: all that they name exists")
 
 
 if __name__ == "__main__":
