@@ -1,16 +1,14 @@
 -- What a call does that takes handles of several kinds.
 use Rattle.std.specs.Prelude.{ℕ, ◌≡◌, [], Option, Some, None, nat_eq}
 use Rattle.bucket_table.specs.Rehash.State.{first_tickets}
+use Rattle.collections.specs.Slots.{cleared as map_cleared}
 use Rattle.bucket_calls.specs.Codes.{closed, ok, other_kind}
 use Rattle.bucket_calls.specs.Sizing.{MakesRoomBy, ShrinksBy}
 use Rattle.bucket_calls.specs.Views.{Caches, Maps, Text, text_eq}
 use Rattle.bucket_c.specs.declared.tables.Table.{Table}
 use Rattle.bucket_c.specs.declared.tables.Table.TheVariants.{Map, TextMap, Set, TextSet, Store, Cache, TextCache}
 
--- no pair and no slot is left; the hasher and the capacities stay
-abbrev pub map_cleared : {K V : Type 0} → Maps K V → Maps K V
-map_cleared map = record map { entries = []; slots = 0; old_slots = 0; bucket_lens = [] }
-
+-- no pair and no slot is left of a cache; the hasher and the capacities stay
 abbrev pub cache_cleared : {K : Type 0} → Caches K → Caches K
 cache_cleared cache =
     record { hasher = cache.hasher; arrays = record cache.arrays { current = []; linked = []; tickets = first_tickets 0 } }

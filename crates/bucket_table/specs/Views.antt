@@ -5,6 +5,7 @@ pub mod Locking
 pub mod Keeping
 pub mod Settings
 pub mod ArrayLoan
+pub mod OldLoan
 pub mod ArraysLoan
 pub mod ArrayAccess
 pub mod TableRow

@@ -2,6 +2,7 @@
 ghost use Rattle.std.specs.Prelude.{◌≡◌, ◌^◌, ◌≤◌, ◌<◌, ◌↔◌, [], IsTrue, MatchOption, length};
 ghost use Rattle.bucket_slots.specs.Homes.{IsHome};
 ghost use Rattle.bucket_slots.specs.Sizing.{IsLength, IsPowerIn};
+ghost use Rattle.bucket_table.specs.Map.LookingUp.{lent_buckets};
 ghost use Rattle.bucket_table.specs.Views.ArraysView.{AreArrays, list_of};
 ghost use Rattle.bucket_table.specs.Views.Sides.{buckets_on};
 ghost use Rattle.bucket_table.specs.Rehash.State.{IsTicketState, first_tickets, word_of};
@@ -17,6 +18,7 @@ mod lending;
 mod lookup;
 mod moving;
 mod neighbours;
+mod old_array;
 mod overfull;
 mod pairs;
 mod plan;
@@ -32,7 +34,6 @@ mod slots;
 mod unit;
 mod write_access;
 
-use crate::tickets::Tickets;
 use bucket_slots::bucket_array::BucketArray;
 use bucket_slots::lru::LruList;
 pub use by_use::PairsByUse;
@@ -40,6 +41,7 @@ pub(crate) use counting::{put_len, some_len};
 pub use draining::TableDrain;
 pub use extracting::TableExtract;
 pub use lookup::{Spot, peek_arrays};
+use old_array::OldArray;
 pub use pairs::{ArraysPairs, Kind, TablePairs};
 pub use side::Side;
 use std::alloc::Global;
@@ -74,8 +76,7 @@ pub struct Arrays<K, V, L: LruList, const TYPE: u8> {
     minimum: usize,
     maximum: usize,
     current: Option<BucketArray<K, V, L, TYPE>>,
-    linked: Option<BucketArray<K, V, L, TYPE>>,
-    tickets: Tickets,
+    linked: OldArray<K, V, L, TYPE>,
 }
 
 impl<K, V, L: LruList, const TYPE: u8> Model for Arrays<K, V, L, TYPE> {
@@ -87,16 +88,16 @@ impl<K, V, L: LruList, const TYPE: u8> Model for Arrays<K, V, L, TYPE> {
       minimum = arrays.minimum;
       maximum = arrays.maximum;
       current = list_of arrays.current;
-      linked = list_of arrays.linked;
-      tickets = arrays.tickets;
+      linked = arrays.linked.array;
+      tickets = arrays.linked.tickets;
     } };
 
     ghost invariant = { λ arrays. AreArrays (record {
       minimum = arrays.minimum;
       maximum = arrays.maximum;
       current = list_of arrays.current;
-      linked = list_of arrays.linked;
-      tickets = arrays.tickets;
+      linked = arrays.linked.array;
+      tickets = arrays.linked.tickets;
     }) };
 }
 
@@ -118,8 +119,7 @@ impl<K, V, L: LruList, const TYPE: u8> Arrays<K, V, L, TYPE> {
             minimum,
             maximum,
             current: None,
-            linked: None,
-            tickets: Tickets::none(alloc),
+            linked: OldArray::none(),
         }
     }
 
@@ -147,7 +147,7 @@ impl<K, V, L: LruList, const TYPE: u8> Arrays<K, V, L, TYPE> {
     pub(crate) fn has_old(&self) -> bool
         ensures { IsTrue result ↔ (0 < length self.now.linked) }
     {
-        stands(&self.linked)
+        self.linked.is_some()
     }
 
     /// Tests whether there is a current array.
@@ -167,7 +167,7 @@ impl<K, V, L: LruList, const TYPE: u8> Arrays<K, V, L, TYPE> {
         if !self.has_old() {
             return None;
         }
-        Some(self.tickets.word())
+        Some(self.linked.word())
     }
 
     /// States that the arrays and the tickets are within their bounds; does nothing at run time.
@@ -175,7 +175,7 @@ impl<K, V, L: LruList, const TYPE: u8> Arrays<K, V, L, TYPE> {
         ensures arrays { AreArrays self.now }
         ensures tickets { IsTicketState self.now.tickets }
     {
-        self.tickets.sound();
+        self.linked.sound();
     }
 
     /// Returns the number of buckets of the current array, and 0 where there is none.
@@ -195,7 +195,7 @@ impl<K, V, L: LruList, const TYPE: u8> Arrays<K, V, L, TYPE> {
         ensures few { result ≤ 2 ^ 57 }
         ensures power { 0 < result → IsLength result }
     {
-        len_of(&self.linked)
+        self.linked.len()
     }
 
     /// Returns the number of buckets of one side, and 0 where there is no such array.
@@ -212,8 +212,9 @@ impl<K, V, L: LruList, const TYPE: u8> Arrays<K, V, L, TYPE> {
     /// Returns the current array.
     #[inline(always)]
     pub(crate) fn array(&self) -> Option<&BucketArray<K, V, L, TYPE>>
-        ensures { MatchOption result (length self.now.current ≡ 0) (λ array.
+        ensures there { MatchOption result (length self.now.current ≡ 0) (λ array.
             (0 < length array.now) × (array.now ≡ self.now.current)) }
+        ensures lent { lent_buckets result ≡ self.now.current }
     {
         array_in(&self.current)
     }
@@ -221,10 +222,11 @@ impl<K, V, L: LruList, const TYPE: u8> Arrays<K, V, L, TYPE> {
     /// Returns the old array.
     #[inline(always)]
     pub(crate) fn linked_array(&self) -> Option<&BucketArray<K, V, L, TYPE>>
-        ensures { MatchOption result (length self.now.linked ≡ 0) (λ array.
+        ensures there { MatchOption result (length self.now.linked ≡ 0) (λ array.
             (0 < length array.now) × (array.now ≡ self.now.linked)) }
+        ensures lent { lent_buckets result ≡ self.now.linked }
     {
-        array_in(&self.linked)
+        self.linked.array()
     }
 
     /// Returns the array of one side.
@@ -238,7 +240,7 @@ impl<K, V, L: LruList, const TYPE: u8> Arrays<K, V, L, TYPE> {
                 Some(array) => array,
                 None => unreachable!(),
             },
-            Side::Old => match &self.linked {
+            Side::Old => match self.linked.array() {
                 Some(array) => array,
                 None => unreachable!(),
             },
@@ -285,13 +287,14 @@ fn len_of<K, V, L: LruList, const TYPE: u8>(held: &Option<BucketArray<K, V, L, T
     }
 }
 
-/// Returns the array of one side.
+/// Returns the current array.
 #[inline(always)]
 fn array_in<K, V, L: LruList, const TYPE: u8>(
     held: &Option<BucketArray<K, V, L, TYPE>>,
 ) -> Option<&BucketArray<K, V, L, TYPE>>
-    ensures { MatchOption result (length (list_of held.now) ≡ 0) (λ array.
+    ensures there { MatchOption result (length (list_of held.now) ≡ 0) (λ array.
         (0 < length array.now) × (array.now ≡ list_of held.now)) }
+    ensures lent { lent_buckets result ≡ list_of held.now }
 {
     match held {
         None => None,

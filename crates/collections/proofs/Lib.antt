@@ -37,3 +37,4 @@ pub mod EntryLoans
 pub mod SetClones
 pub mod Buckets
 pub mod Hints
+pub mod Cleared

@@ -1,8 +1,17 @@
 -- What calls do to the slots of a map.
-use Rattle.std.specs.Prelude.{ℕ, ◌*◌, ◌≡◌, ◌<◌, ◌/◌, ◌⊎◌, Bool, true, false, length}
+use Rattle.std.specs.Prelude.{ℕ, ◌*◌, ◌≡◌, ◌<◌, ◌/◌, ◌&&◌, ◌⊎◌, [], Bool, true, false, if◌then◌else◌, length, nat_eq, nat_le, replicate}
 use Rattle.bucket_slots.specs.Sizing.{IsLengthFor}
 use Rattle.collections.specs.Crowding.{HasAtHome}
 use Rattle.collections.specs.Maps.{MapView}
+
+-- the slots that a clear keeps: those of a map without an old array, if they are no more than the minimum
+abbrev pub kept_slots : {K V H : Type 0} → MapView K V H → ℕ
+kept_slots map = if nat_le map.slots map.minimum && nat_eq map.old_slots 0 then map.slots else 0
+
+-- the map without its pairs
+abbrev pub cleared : {K V H : Type 0} → MapView K V H → MapView K V H
+cleared map =
+    record map { entries = []; slots = kept_slots map; old_slots = 0; bucket_lens = replicate (kept_slots map / 32) 0 }
 
 module _ {K V H : Type 0} where
   -- the slots stay, and the old ones stay or are dropped

@@ -5,7 +5,7 @@
 //! pairs.
 //!
 //! Ports scc's `src/hash_map.rs` to an owned map: a call borrows where scc locks.
-ghost use Rattle.std.specs.Prelude.{◌≡◌, ◌↔◌, ◌-◌, ◌^◌, [], Err, IsTrue, OnErr, is_some};
+ghost use Rattle.std.specs.Prelude.{◌≡◌, ◌↔◌, ◌-◌, ◌^◌, [], Err, IsTrue, OnErr, false, is_some};
 ghost use Rattle.std.specs.Prelude.{min};
 ghost use Rattle.std.specs.Option.{option_copied};
 ghost use Rattle.std.specs.Borrow.{Bor, MutBor};
@@ -14,7 +14,7 @@ ghost use Rattle.bucket_table.specs.declared.hash_table.NotInserted.TheVariants.
 ghost use Rattle.collections.specs.Crowding.{LacksRoom};
 ghost use Rattle.collections.specs.Maps.{contains_by, get_by, IsEmpty, map_len};
 ghost use Rattle.collections.specs.Changes.{Inserts, Removes, Rewrites, Upserts};
-ghost use Rattle.collections.specs.Slots.{GrowsSlots, KeepsSlots, LosesSlots};
+ghost use Rattle.collections.specs.Slots.{GrowsSlots, KeepsSlots, LosesSlots, cleared};
 
 mod cloning;
 mod collecting;
@@ -270,15 +270,22 @@ impl<K: Eq + Drop, V: Drop, H: KeyHash<K>> HashMap<K, V, H> {
         outcome
     }
 
-    /// Drops all pairs and all slots; the hasher and the capacities stay.
+    /// Drops all pairs. The hasher and the capacities stay, and so do the slots if they are no more
+    /// than the minimum and there are no old ones; else no slots are left.
     ///
     /// Never fails. O(slots). scc: `HashMap::clear_sync`.
     pub fn clear(&mut self)
-        ensures { self.new
-            ≡ record self.old { entries = []; slots = 0; old_slots = 0; bucket_lens = [] } }
+        ensures { self.new ≡ cleared self.old }
     {
         self.room.learn();
-        self.table.clear();
+        if self.table.has_linked_array() || self.table.num_slots() > self.table.minimum_capacity() {
+            self.table.clear();
+            return;
+        }
+        let mut keep_none = |_key: &K, _value: &mut V|
+            ensures { result ≡ false }
+        { false };
+        let _ = self.table.retain(&mut keep_none, &());
     }
 }
 

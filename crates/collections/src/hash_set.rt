@@ -11,7 +11,7 @@ ghost use Rattle.bucket_table.specs.declared.hash_table.NotInserted.TheVariants.
 ghost use Rattle.collections.specs.Changes.{Inserts, SetRemoves};
 ghost use Rattle.collections.specs.Copies.{IsCopy};
 ghost use Rattle.collections.specs.Crowding.{LacksRoom};
-ghost use Rattle.collections.specs.Slots.{GrowsSlots, LosesSlots};
+ghost use Rattle.collections.specs.Slots.{GrowsSlots, LosesSlots, cleared};
 ghost use Rattle.collections.specs.Keys.{CallsEachKey, RetainsKeys};
 ghost use Rattle.collections.specs.Maps.{contains_by, IsEmpty, map_len, pairs_in_bucket};
 
@@ -242,12 +242,12 @@ impl<K: Eq + Drop, H: KeyHash<K>> HashSet<K, H> {
         self.map.retain_ref(&mut keep);
     }
 
-    /// Drops all keys and all slots; the hasher and the capacities stay.
+    /// Drops all keys. The hasher and the capacities stay, and so do the slots if they are no more
+    /// than the minimum and there are no old ones; else no slots are left.
     ///
     /// Never fails. O(slots). scc: `HashSet::clear_sync`.
     pub fn clear(&mut self)
-        ensures { self.new
-            ≡ record self.old { entries = []; slots = 0; old_slots = 0; bucket_lens = [] } }
+        ensures { self.new ≡ cleared self.old }
     {
         self.map.clear();
     }

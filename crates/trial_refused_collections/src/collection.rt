@@ -93,10 +93,16 @@ impl Collection {
         (came, on_each!(self, any => any.len(), cache => cache.len()))
     }
 
-    /// Clears the collection, and returns whether it then has no slot.
+    /// Clears the collection. Returns whether it then has no pair, and no slot either unless it is a
+    /// map or a set, which may keep those of the minimum.
     pub(crate) fn clear(&mut self) -> bool {
         on_each!(self, any => any.clear(), cache => cache.clear());
-        on_each!(self, any => any.capacity(), cache => cache.capacity()) == 0
+        match self {
+            Map(map) => map.is_empty(),
+            Set(set) => set.is_empty(),
+            Index(index) => index.capacity() == 0,
+            Cache(cache) => cache.capacity() == 0,
+        }
     }
 
     /// Raises the minimum, if there is one, and returns whether it was raised.

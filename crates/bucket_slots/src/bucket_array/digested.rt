@@ -190,12 +190,16 @@ impl<K, V, L: LruList, const TYPE: u8> BucketArray<K, V, L, TYPE> {
         self.digests = digests;
     }
 
-    /// Allocates the digests and builds them. No bucket changes.
+    /// Allocates the digests and builds them; an array of at most four buckets has none. No bucket
+    /// changes.
     ///
     /// Never fails: a digest without memory stays stale. O(buckets).
     pub fn start_digests(&mut self, alloc: Global)
         ensures { self.new ≡ self.old }
     {
+        if self.buckets.is_short() {
+            return;
+        }
         self.restart_digests(alloc);
         for index in 0..self.len() {
             self.settle(index);

@@ -5,7 +5,7 @@ ghost use Rattle.std.specs.Prelude.{◌≡◌, ◌∷◌, MatchOption, drop};
 ghost use Rattle.std.specs.Iterator.{YieldsFirstBy, item_count};
 ghost use Rattle.bucket_slots.specs.ByUse.{pairs_by_use};
 ghost use Rattle.bucket_slots.specs.Walking.{IsEnd, pairs_ahead};
-ghost use Rattle.bucket_table.specs.Views.ArraysView.{list_of};
+ghost use Rattle.bucket_table.specs.Map.LookingUp.{lent_buckets};
 ghost use Rattle.bucket_table.specs.Walking.ByUse.{all_by_use, arrays_by_use, left_of, own_left};
 
 use super::Arrays;
@@ -186,8 +186,8 @@ impl<'a, K, V> PairsByUse<'a, K, V> {
         ensures { result ≡ arrays_by_use arrays.now }
     {
         PairsByUse {
-            current: pairs_on(&arrays.current),
-            linked: pairs_on(&arrays.linked),
+            current: pairs_on(arrays.array()),
+            linked: pairs_on(arrays.linked_array()),
         }
     }
 }
@@ -221,9 +221,9 @@ fn next_of<'a, K, V>(pairs: &mut Option<ArrayByUse<'a, K, V>>) -> Option<(&'a K,
 
 /// Begins with all pairs of an array.
 fn pairs_on<'a, K, V>(
-    side: &'a Option<BucketArray<K, V, DoublyLinkedList, CACHE>>,
+    side: Option<&'a BucketArray<K, V, DoublyLinkedList, CACHE>>,
 ) -> Option<ArrayByUse<'a, K, V>>
-    ensures { left_of result ≡ all_by_use (list_of side.now) }
+    ensures { left_of result ≡ all_by_use (lent_buckets side.entry) }
 {
     match side {
         None => None,

@@ -9,7 +9,7 @@ ghost use Rattle.bucket_table.specs.Walking.Row.{pairs_from, row_of};
 
 use super::Arrays;
 use super::counting::{is_exact, rest_after};
-use crate::tickets::Tickets;
+use super::old_array::OldArray;
 use bucket_slots::bucket::{EntryPtr, INDEX};
 use bucket_slots::lru::LruList;
 use std::iter::FusedIterator;
@@ -22,8 +22,7 @@ impl<K: Drop, V: Drop, L: LruList + Drop, const TYPE: u8> Arrays<K, V, L, TYPE> 
             ≡ record self.old { current = []; linked = []; tickets = first_tickets 0 } }
     {
         self.current = None;
-        self.linked = None;
-        self.tickets = Tickets::none(self.alloc);
+        self.linked = OldArray::none();
     }
 }
 

@@ -3,8 +3,8 @@ ghost use Rattle.std.specs.Prelude.{◌<◌, ◌^◌, ◌↔◌, IsTrue, length}
 ghost use Rattle.bucket_slots.specs.ArrayView.{bucket_at};
 ghost use Rattle.bucket_slots.specs.BucketView.{pairs_in};
 ghost use Rattle.bucket_slots.specs.Walking.{CallsEach};
-ghost use Rattle.bucket_table.specs.Map.LookingUp.{pairs_in_all};
-ghost use Rattle.bucket_table.specs.Views.ArraysView.{list_of, pairs_of};
+ghost use Rattle.bucket_table.specs.Map.LookingUp.{lent_buckets, pairs_in_all};
+ghost use Rattle.bucket_table.specs.Views.ArraysView.{pairs_of};
 ghost use Rattle.bucket_table.specs.Walking.Row.{row_of};
 
 use super::Arrays;
@@ -20,8 +20,8 @@ impl<K, V, L: LruList, const TYPE: u8> Arrays<K, V, L, TYPE> {
         ensures calls { CallsEach (λ state own value last. F.step state own value tt last) f.old
             (pairs_of self.now) f.new }
     {
-        for_each_of(&self.current, f);
-        for_each_of(&self.linked, f);
+        for_each_of(self.array(), f);
+        for_each_of(self.linked_array(), f);
     }
 
     /// Calls a function with each pair of one bucket of the row, and returns whether there is such
@@ -46,13 +46,13 @@ impl<K, V, L: LruList, const TYPE: u8> Arrays<K, V, L, TYPE> {
 /// Calls a function with each pair of an array.
 #[inline(always)]
 fn for_each_of<K, V, L: LruList, F: FnMut(&K, &V), const TYPE: u8>(
-    held: &Option<BucketArray<K, V, L, TYPE>>,
+    held: Option<&BucketArray<K, V, L, TYPE>>,
     f: &mut F,
 )
     requires callable { F.IsAlwaysCallable f.old }
     ensures again { F.IsAlwaysCallable f.new }
     ensures calls { CallsEach (λ state own value last. F.step state own value tt last) f.old
-        (pairs_in_all (list_of held.now)) f.new }
+        (pairs_in_all (lent_buckets held.entry)) f.new }
 {
     let Some(array) = held else {
         return;

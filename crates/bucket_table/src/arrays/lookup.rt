@@ -36,18 +36,7 @@ impl<K, V, L: LruList, const TYPE: u8> Arrays<K, V, L, TYPE> {
         ensures fixed { P.wants probe.new ≡ P.wants probe.old }
     {
         match &self.current {
-            Some(current) => peek_arrays(self.old_array(), current, hash, probe),
-            None => None,
-        }
-    }
-
-    /// Returns the old array.
-    #[inline(always)]
-    fn old_array(&self) -> Option<&BucketArray<K, V, L, TYPE>>
-        ensures { lent_buckets result ≡ self.now.linked }
-    {
-        match &self.linked {
-            Some(array) => Some(array),
+            Some(current) => peek_arrays(self.linked_array(), current, hash, probe),
             None => None,
         }
     }

@@ -57,10 +57,7 @@ impl<K: Eq + Drop, V: Drop, L: LruList + Drop, const TYPE: u8> Arrays<K, V, L, T
         let Some(current) = &mut self.current else {
             unreachable!()
         };
-        let Some(linked) = &mut self.linked else {
-            unreachable!()
-        };
-        relocate(self.alloc, hasher, current, linked, index)
+        relocate(self.alloc, hasher, current, self.linked.array_mut(), index)
     }
 
     /// Moves the old buckets from `start` up to but not including `end`, one after another. Returns

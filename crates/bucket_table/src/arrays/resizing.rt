@@ -12,6 +12,7 @@ ghost use Rattle.bucket_table.specs.Resize.Resizing.{IsPlanOf, IsPushed, MakesAr
 ghost use Rattle.bucket_table.specs.Resize.Resizing.{Reserves, Resizes, TriesResize, with_minimum};
 ghost use Rattle.bucket_table.specs.Resize.Sparse.{IsSparse, ShrinksIf};
 
+use super::old_array::OldArray;
 use super::plan::{Plan, plan_of};
 use super::{Arrays, Side};
 use crate::tickets::Tickets;
@@ -243,13 +244,20 @@ impl<K: Drop, V: Drop, L: LruList + Drop, const TYPE: u8> Arrays<K, V, L, TYPE> 
             return Err(AllocError);
         };
         let mut fresh = BucketArray::alloc(self.alloc, capacity)?;
-        let Some(mut array) = self.current.take() else {
+        let Some(array) = self.current.take() else {
             unreachable!()
         };
-        fresh.adopt_digests(self.alloc, &mut array);
-        self.current = Some(fresh);
-        self.linked = Some(array);
-        self.tickets = tickets;
-        Ok(())
+        match OldArray::new(self.alloc, array, tickets) {
+            Ok(mut old) => {
+                fresh.adopt_digests(self.alloc, old.array_mut());
+                self.current = Some(fresh);
+                self.linked = old;
+                Ok(())
+            }
+            Err(array) => {
+                self.current = Some(array);
+                Err(AllocError)
+            }
+        }
     }
 }

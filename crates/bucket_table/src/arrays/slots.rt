@@ -15,7 +15,7 @@ ghost use Rattle.bucket_table.specs.Resize.Asking.{RemovesAndShrinks};
 ghost use Rattle.bucket_table.specs.Views.Sides.{arrays_with, bucket_on, buckets_on};
 ghost use Rattle.bucket_table.specs.Views.Keeping.{Keeps};
 
-use super::lending::{insert_in, take_in, touch_in, upsert_in};
+use super::lending::{current_in, insert_in};
 use super::{Arrays, Side};
 use crate::hash_table::NotInserted;
 use bucket_slots::bucket::{CACHE, EntryPtr, Generation, INDEX, KeyProbe};
@@ -45,8 +45,8 @@ impl<K, V, L: LruList, const TYPE: u8> Arrays<K, V, L, TYPE> {
             (slots_touched L.KEEPS (bucket_on self.old side index) at.now) }
     {
         match side {
-            Side::Current => touch_in(&mut self.current, index, at),
-            Side::Old => touch_in(&mut self.linked, index, at),
+            Side::Current => current_in(&mut self.current).touch(index, at),
+            Side::Old => self.linked.array_mut().touch(index, at),
         }
     }
 
@@ -117,8 +117,14 @@ impl<K: Drop, V: Drop, L: LruList, const TYPE: u8> Arrays<K, V, L, TYPE> {
             (λ left. self.new ≡ arrays_with self.old side index left) }
     {
         match side {
-            Side::Current => insert_in(&mut self.current, index, hash, key, value, generation),
-            Side::Old => insert_in(&mut self.linked, index, hash, key, value, generation),
+            Side::Current => {
+                let array = current_in(&mut self.current);
+                insert_in(array, index, hash, key, value, generation)
+            }
+            Side::Old => {
+                let array = self.linked.array_mut();
+                insert_in(array, index, hash, key, value, generation)
+            }
         }
     }
 
@@ -142,8 +148,14 @@ impl<K: Drop, V: Drop, L: LruList, const TYPE: u8> Arrays<K, V, L, TYPE> {
             × (self.new ≡ arrays_with self.old side index left) }
     {
         match side {
-            Side::Current => upsert_in(&mut self.current, index, hash, key, value, generation),
-            Side::Old => upsert_in(&mut self.linked, index, hash, key, value, generation),
+            Side::Current => {
+                let array = current_in(&mut self.current);
+                array.upsert(index, hash, key, value, generation)
+            }
+            Side::Old => {
+                let array = self.linked.array_mut();
+                array.upsert(index, hash, key, value, generation)
+            }
         }
     }
 
@@ -164,8 +176,8 @@ impl<K: Drop, V: Drop, L: LruList, const TYPE: u8> Arrays<K, V, L, TYPE> {
         ensures fixed { P.wants probe.new ≡ P.wants probe.old }
     {
         match side {
-            Side::Current => take_in(&mut self.current, index, hash, probe),
-            Side::Old => take_in(&mut self.linked, index, hash, probe),
+            Side::Current => current_in(&mut self.current).take_by(index, hash, probe),
+            Side::Old => self.linked.array_mut().take_by(index, hash, probe),
         }
     }
 

@@ -77,9 +77,7 @@ impl<K: Eq + Drop, V: Drop, L: LruList + Drop, const TYPE: u8> Arrays<K, V, L, T
         requires { index < length self.old.linked }
         ensures { self.new ≡ self.old }
     {
-        let Some(linked) = &mut self.linked else {
-            unreachable!()
-        };
+        let linked = self.linked.array_mut();
         match &mut self.current {
             Some(current) => linked.release_into(index, current),
             None => linked.release_around(index),

@@ -10,17 +10,18 @@ invariant_of-self g c =
     let stood = ap (λ o. length (list_of o)) (sym c.in-Some.ensures.value) in
     let current = ap (λ a. length a.current) c.self.view_is in
     let tickets = ap (λ t. t.len) c.in-Ok.ensures in
-    rw (c.adopt_digests.ensures.own, c.adopt_digests.ensures.other)
+    rw (c.adopt_digests.ensures.own, c.adopt_digests.ensures.other, c.array_mut.ensures.array, c.in-Ok-new.ensures.made)
     (fresh_fits c.args.capacity _ _ _ _ c.in_ok-fresh.fresh _ _ _ c.self.invariant (omega (arith, maximum, c.requires.capacity))
     c.in_ok-fresh.ensures
     (omega (arith, tickets, stood, current, c.len.ensures.value)))
 
-pub returns-clause-pushed : goal.returns-clause-pushed
-returns-clause-pushed g c = rw (c.adopt_digests.ensures.own, c.adopt_digests.ensures.other) (record {
-  alone = c.requires.alone;
-  none_open = none_open c.args.self.now.tickets c.sound.ensures.tickets (c.sound.ensures.arrays.tickets_len ∙ c.requires.alone);
-  fresh = c.in_ok-fresh.fresh;
-  fresh_is = c.in_ok-fresh.ensures;
-  new_is = pushed_seen _ _ _ c.self.inside.current _ c.args.self.now c.in_ok-fresh.fresh c.in-Some.array c.in-Ok.tickets c.len.result
-      c.in-Some.ensures.value c.in-Ok.ensures c.len.ensures.value c.self.view_is;
-})
+pub returns-in-Ok-new-clause-pushed : goal.returns-in-Ok-new-clause-pushed
+returns-in-Ok-new-clause-pushed g c =
+    rw (c.adopt_digests.ensures.own, c.adopt_digests.ensures.other, c.array_mut.ensures.array, c.in-Ok-new.ensures.made) (record {
+      alone = c.requires.alone;
+      none_open = none_open c.args.self.now.tickets c.sound.ensures.tickets (c.sound.ensures.arrays.tickets_len ∙ c.requires.alone);
+      fresh = c.in_ok-fresh.fresh;
+      fresh_is = c.in_ok-fresh.ensures;
+      new_is = pushed_seen _ _ _ c.self.inside.current _ c.args.self.now c.in_ok-fresh.fresh c.in-Some.array c.in-Ok.tickets c.len.result
+          c.in-Some.ensures.value c.in-Ok.ensures c.len.ensures.value c.self.view_is;
+    })

@@ -1,13 +1,12 @@
 use Rattle.bucket_table.proofs.Words.{ap, arith, bucket_at, refl, sym, take, ◌∙◌}
 use Rattle.std.proofs.lemmas.List.{take_all}
-use Rattle.bucket_table.specs.Map.LookingUp.{pairs_in_all}
-use Rattle.bucket_table.specs.Views.ArraysView.{list_of}
+use Rattle.bucket_table.specs.Map.LookingUp.{lent_buckets, pairs_in_all}
 use Rattle.bucket_table.proofs.Walking.EachPair.{calls_more, calls_same}
 use Rattle.bucket_table.proofs.arrays.each_pair.for_each_of.Goals as goal
 
 pub loop-index-preserved : goal.loop-index-preserved
 loop-index-preserved g c =
-    let array = c.in-Some.array in (
+    let array = c.in-Some.array.now in (
       c.for_each_in.ensures.again,
       calls_more _ c.args.f.now c.loop-index.f c.for_each_in.new.f array c.loop-index.index
           (bucket_at array c.loop-index.index)
@@ -17,11 +16,11 @@ loop-index-preserved g c =
 
 pub returns-clause-calls : goal.returns-clause-calls
 returns-clause-calls g c =
-    let array = c.in-Some.array in
+    let array = c.in-Some.array.now in
     let all = take_all c.loop-index.index array (omega (
       arith,
       c.loop-index-test.false,
       c.len-index-end.ensures.value,
     )) in
     calls_same _ c.args.f.now c.loop-index.f (pairs_in_all (take c.loop-index.index array)) _
-    (ap pairs_in_all all ∙ sym (ap (λ held. pairs_in_all (list_of held)) c.in-Some.is)) c.loop-index.invariant.1
+    (ap pairs_in_all all ∙ sym (ap (λ held. pairs_in_all (lent_buckets held)) c.in-Some.is)) c.loop-index.invariant.1

@@ -20,7 +20,7 @@ use Rattle.std.proofs.Common.{
   ⊎_elim,
   get_or,
 }
-use Rattle.bucket_table.proofs.arrays.rehashing.is_killed_in.Goals as goal
+use Rattle.bucket_table.proofs.arrays.old_array.is_unit_killed.Goals as goal
 
 pub returns-then-not-is_killed : goal.returns-then-not-is_killed
 returns-then-not-is_killed g c =
