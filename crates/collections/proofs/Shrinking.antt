@@ -7,8 +7,8 @@ use Rattle.bucket_table.specs.Resize.Resizing.{IsGivenUp, IsPlanOf, IsPushed, Tr
 use Rattle.bucket_table.specs.Resize.Sparse.{FreesSlots}
 use Rattle.bucket_table.specs.Views.ArraysView.{ArraysView}
 use Rattle.bucket_table.specs.Views.Sides.{arrays_with}
-use Rattle.bucket_table.specs.declared.arrays.plan.Plan.{Plan}
-use Rattle.bucket_table.specs.declared.arrays.plan.Plan.TheVariants.{GiveUp, Keep, Resize}
+use Rattle.bucket_table.specs.declared.arrays.resize.Plan.{Plan}
+use Rattle.bucket_table.specs.declared.arrays.resize.Plan.TheVariants.{GiveUp, Keep, Resize}
 use Rattle.bucket_table.specs.declared.arrays.side.Side.{Side}
 use Rattle.bucket_table.proofs.CallerLemmas.{gives_up_at_zero}
 

@@ -6,7 +6,7 @@ use Rattle.bucket_table.proofs.Words.{live_pairs, map, min, nil_from_length, pai
 use Rattle.bucket_table.proofs.Words.{◌*◌, ◌++◌, ◌+◌, ◌-◌, ◌/◌, ◌<◌, ◌^◌, ◌∙◌, ◌∷◌, ◌≡◌, ◌≤◌}
 use Rattle.bucket_slots.proofs.Counting.{length-live_pairs, length-live_pairs-append}
 use Rattle.bucket_table.specs.Resize.Resizing.{IsPlanOf, TriesResize}
-use Rattle.bucket_table.specs.declared.arrays.plan.Plan.TheVariants.{Resize}
+use Rattle.bucket_table.specs.declared.arrays.resize.Plan.TheVariants.{Resize}
 use Rattle.std.proofs.Common.{length-append, sum, zero-mul}
 use Rattle.std.proofs.lemmas.List.Sums.{count_by-le-length}
 use Rattle.bucket_table.specs.Map.Counting.{IsHeldBy, chained_among}

@@ -2,7 +2,7 @@
 use Rattle.bucket_table.proofs.Words.{Bool, BucketView, List, ListsArrivals, None, Option, Some, ℕ, [], ap, append-nil, arith, bucket_at}
 use Rattle.bucket_table.proofs.Words.{cases_eq, eq-eqb, false, false≢true, get_or, inl, inr, is_listed, landing_of, length, ne_eqb, refl}
 use Rattle.bucket_table.proofs.Words.{set, sym, take, take_more, true, ◌++◌, ◌+◌, ◌<◌, ◌==◌, ◌∙◌, ◌∷◌, ◌≡◌}
-use Rattle.bucket_table.specs.declared.arrays.moving.Landing.{Landing}
+use Rattle.bucket_table.specs.declared.arrays.relocate.Landing.{Landing}
 use Rattle.std.proofs.lemmas.List.Concat.{flat_map-append}
 use Rattle.std.proofs.Common.{append_assoc}
 use Rattle.std.proofs.lemmas.Bool.{or_from, or_parts}

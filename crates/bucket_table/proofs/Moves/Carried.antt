@@ -7,7 +7,7 @@ use Rattle.bucket_table.proofs.Words.{map, map-append, marked, marks_in, nil_fro
 use Rattle.bucket_table.proofs.Words.{subst, sym, take, true, ◌++◌, ◌-◌, ◌<◌, ◌==◌, ◌∙◌, ◌∷◌, ◌≡◌}
 use Rattle.bucket_table.specs.Layout.Moving.{CanMoveInto}
 use Rattle.bucket_table.specs.Rehash.Carrying.{WentFirst, WentInOrder}
-use Rattle.bucket_table.specs.declared.arrays.moving.Landing.{Landing}
+use Rattle.bucket_table.specs.declared.arrays.relocate.Landing.{Landing}
 use Rattle.std.proofs.Math.Seq.{take-append_seam}
 use Rattle.std.specs.List.{filter}
 use Rattle.bucket_slots.proofs.PlacedSlots.{listed_below}

@@ -6,7 +6,7 @@ use Rattle.bucket_table.proofs.Words.{live_from_pair, live_not_free, live_pair, 
 use Rattle.bucket_table.proofs.Words.{set, slot_at, slot_in, slots_vacated, subst, suc, sym, true, zero, ◌%◌, ◌<◌, ◌∙◌, ◌≡◌, ◌⊎◌}
 use Rattle.bucket_slots.specs.Placing.{place_for_next, slots_with}
 use Rattle.bucket_table.specs.Layout.Moving.{MovesHome}
-use Rattle.bucket_table.specs.declared.arrays.moving.Landing.{Landing}
+use Rattle.bucket_table.specs.declared.arrays.relocate.Landing.{Landing}
 use Rattle.std.proofs.lemmas.List.{get_or-set_other, set_past}
 use Rattle.bucket_slots.proofs.PlacedSlots.{chain_kept, chain_put, free_unlisted, listed-slots_with, listed_pairs-slots_with}
 use Rattle.bucket_slots.proofs.PlacedSlots.{own-slots_vacated, own_kept, own_put, own_vacated, was_free}

@@ -10,7 +10,7 @@ use Rattle.bucket_table.proofs.Words.{◌∷◌, ◌≡◌, ◌≤◌}
 use Rattle.bucket_slots.proofs.MarksAfter.{marks_in-slots_with, no_new-append, no_new-same}
 use Rattle.bucket_slots.specs.Placing.{slots_with}
 use Rattle.bucket_table.specs.Layout.Moving.{CanMoveInto, HasOwnByte, MovesHome}
-use Rattle.bucket_table.specs.declared.arrays.moving.Landing.{Landing}
+use Rattle.bucket_table.specs.declared.arrays.relocate.Landing.{Landing}
 use Rattle.std.proofs.lemmas.Bool.Decides.{nat_tests}
 use Rattle.std.proofs.lemmas.List.Sorted.{sum_by-IsPermutation}
 use Rattle.bucket_table.specs.Layout.Landings.{MoveInOrder}

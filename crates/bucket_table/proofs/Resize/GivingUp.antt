@@ -1,8 +1,8 @@
 -- A plan drops an array only if no slot is live, and changes something only if there is a current array and no old one.
 use Rattle.bucket_table.proofs.Words.{All, ArraysView, IsPlan, IsPlanTo, List, ℕ, [], ap, arith, cases_eq, cases_lt, inl, inr}
 use Rattle.bucket_table.proofs.Words.{last_estimate, length, slots_of, ⊎_elim, ◌*◌, ◌+◌, ◌/◌, ◌<◌, ◌≡◌, ◌≤◌}
-use Rattle.bucket_table.specs.declared.arrays.plan.Plan.{Plan}
-use Rattle.bucket_table.specs.declared.arrays.plan.Plan.TheVariants.{GiveUp, Keep, Resize}
+use Rattle.bucket_table.specs.declared.arrays.resize.Plan.{Plan}
+use Rattle.bucket_table.specs.declared.arrays.resize.Plan.TheVariants.{GiveUp, Keep, Resize}
 use Rattle.bucket_table.specs.Resize.Resizing.{IsGivenUp, IsPlanOf}
 use Rattle.bucket_table.proofs.Views.Killed.{no_live}
 use Rattle.bucket_table.proofs.Resize.PlanIsOne.{all_or_not}

@@ -2,8 +2,8 @@
 use Rattle.bucket_table.proofs.Words.{All, BucketView, IsLargeSample, IsOptimalCapacity, IsPlan, IsPlanTo, List, ℕ, ap, arith}
 use Rattle.bucket_table.proofs.Words.{last_estimate, length, live_counts, refl, slots_of, subst, sym, ⊎_elim, ◌*◌, ◌+◌, ◌-◌, ◌/◌, ◌<◌, ◌∙◌}
 use Rattle.bucket_table.proofs.Words.{◌≡◌, ◌≤◌}
-use Rattle.bucket_table.specs.declared.arrays.plan.Plan.{Plan}
-use Rattle.bucket_table.specs.declared.arrays.plan.Plan.TheVariants.{GiveUp, Keep, Resize}
+use Rattle.bucket_table.specs.declared.arrays.resize.Plan.{Plan}
+use Rattle.bucket_table.specs.declared.arrays.resize.Plan.TheVariants.{GiveUp, Keep, Resize}
 use Rattle.std.proofs.lemmas.Nat.{pow-add}
 use Rattle.std.specs.Int.{IsPowerOfTwo}
 use Rattle.bucket_slots.specs.Sampling.{full_sample}

@@ -2,7 +2,7 @@
 use Rattle.bucket_table.proofs.Words.{All, All-cons, All-head, All-tail, IsOptimalCapacity, IsPlan, IsPlanTo, List, ℕ, [], ap, arith}
 use Rattle.bucket_table.proofs.Words.{cases_eq, cases_lt, inl, inr, last_estimate, length, refl, slots_of, subst, sym, ⊎_elim, ◌*◌, ◌/◌}
 use Rattle.bucket_table.proofs.Words.{◌<◌, ◌∙◌, ◌∷◌, ◌≡◌, ◌≤◌, ◌⊎◌}
-use Rattle.bucket_table.specs.declared.arrays.plan.Plan.{Plan}
+use Rattle.bucket_table.specs.declared.arrays.resize.Plan.{Plan}
 use Rattle.bucket_slots.proofs.ArrayNumbers.{large_is_one, optimal_is_one}
 use Rattle.bucket_table.specs.Resize.ResizePlan.{first_estimate, middle_estimate}
 

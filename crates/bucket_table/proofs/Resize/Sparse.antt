@@ -4,8 +4,8 @@ use Rattle.bucket_table.proofs.Words.{◌≡◌, ◌⊎◌}
 use Rattle.bucket_table.specs.Resize.Asking.{AsksShrinking, ResizesIf, ShrinksBy}
 use Rattle.bucket_table.specs.Resize.Resizing.{IsPushed}
 use Rattle.bucket_table.specs.Resize.Sparse.{FreesSlots, IsSparse, ShrinksIf}
-use Rattle.bucket_table.specs.declared.arrays.plan.Plan.{Plan}
-use Rattle.bucket_table.specs.declared.arrays.plan.Plan.TheVariants.{Keep, GiveUp, Resize}
+use Rattle.bucket_table.specs.declared.arrays.resize.Plan.{Plan}
+use Rattle.bucket_table.specs.declared.arrays.resize.Plan.TheVariants.{Keep, GiveUp, Resize}
 use Rattle.bucket_table.proofs.Resize.Following.{given_up_keeps, pushed_keeps, pushed_placed}
 use Rattle.bucket_table.proofs.Views.Keeping.{keeps_same}
 

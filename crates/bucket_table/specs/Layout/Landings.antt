@@ -7,7 +7,7 @@ use Rattle.bucket_slots.specs.ArrayView.{bucket_at}
 use Rattle.bucket_slots.specs.BucketView.{BucketView, Place, listed_pairs, pairs_in}
 use Rattle.bucket_slots.specs.Recency.{is_listed}
 use Rattle.bucket_slots.specs.Slots.{is_free, is_live, live_pair, live_pairs, slot_at}
-use Rattle.bucket_table.specs.declared.arrays.moving.Landing.{Landing}
+use Rattle.bucket_table.specs.declared.arrays.relocate.Landing.{Landing}
 use Rattle.bucket_table.specs.Rehash.Carrying.{WentInOrder, chained_pairs}
 use Rattle.bucket_table.specs.Rehash.Relocation.{KeepsPlaces, homed_len}
 

@@ -8,7 +8,7 @@ use Rattle.bucket_slots.specs.Homes.{IsInRange}
 use Rattle.bucket_slots.specs.Moving.{slots_vacated}
 use Rattle.bucket_slots.specs.Placing.{place_for_next, slots_with}
 use Rattle.bucket_slots.specs.Slots.{live_pair}
-use Rattle.bucket_table.specs.declared.arrays.moving.Landing.{Landing}
+use Rattle.bucket_table.specs.declared.arrays.relocate.Landing.{Landing}
 use Rattle.bucket_table.specs.Layout.Landings.{landings_with}
 use Rattle.bucket_table.specs.Rehash.Relocation.{AreHome, HasRoomFor, IsWay, home_of}
 

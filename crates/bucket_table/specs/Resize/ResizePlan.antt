@@ -4,8 +4,8 @@ use Rattle.std.specs.List.{All}
 use Rattle.bucket_slots.specs.Sampling.{IsLargeSample, full_sample}
 use Rattle.bucket_slots.specs.Sizing.{IsOptimalCapacity, IsTooEmpty, IsTooFull}
 use Rattle.bucket_table.specs.Resize.Sampling.{estimate}
-use Rattle.bucket_table.specs.declared.arrays.plan.Plan.{Plan}
-use Rattle.bucket_table.specs.declared.arrays.plan.Plan.TheVariants.{Keep, GiveUp, Resize}
+use Rattle.bucket_table.specs.declared.arrays.resize.Plan.{Plan}
+use Rattle.bucket_table.specs.declared.arrays.resize.Plan.TheVariants.{Keep, GiveUp, Resize}
 
 -- the number of own slots of all buckets
 abbrev pub slots_of : List ℕ → ℕ

@@ -7,8 +7,8 @@ use Rattle.bucket_table.specs.Rehash.Relocation.{entries_among}
 use Rattle.bucket_table.specs.Resize.ResizePlan.{IsPlan}
 use Rattle.bucket_table.specs.Resize.Sampling.{live_counts}
 use Rattle.bucket_table.specs.Rehash.State.{first_tickets}
-use Rattle.bucket_table.specs.declared.arrays.plan.Plan.{Plan}
-use Rattle.bucket_table.specs.declared.arrays.plan.Plan.TheVariants.{Keep, GiveUp, Resize}
+use Rattle.bucket_table.specs.declared.arrays.resize.Plan.{Plan}
+use Rattle.bucket_table.specs.declared.arrays.resize.Plan.TheVariants.{Keep, GiveUp, Resize}
 
 -- an empty array for the minimum is the current one, and there was none before
 pub record IsMade {K V : Type 0} (old new : ArraysView K V) : Type 0 where

@@ -2,8 +2,8 @@
 use Rattle.std.specs.Prelude.{ℕ, ◌*◌, ◌<◌, ◌≤◌, ◌≡◌, ◌⊎◌, length, max}
 use Rattle.bucket_table.specs.Resize.Resizing.{IsGivenUp, IsPlanOf, IsPushed}
 use Rattle.bucket_table.specs.Views.ArraysView.{ArraysView}
-use Rattle.bucket_table.specs.declared.arrays.plan.Plan.{Plan}
-use Rattle.bucket_table.specs.declared.arrays.plan.Plan.TheVariants.{Keep, GiveUp, Resize}
+use Rattle.bucket_table.specs.declared.arrays.resize.Plan.{Plan}
+use Rattle.bucket_table.specs.declared.arrays.resize.Plan.TheVariants.{Keep, GiveUp, Resize}
 
 -- this number of pairs is less than an eighth of the slots
 abbrev pub IsSparse : {K V : Type 0} → ℕ → ArraysView K V → Type 0

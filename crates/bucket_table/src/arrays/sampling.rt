@@ -1,9 +1,25 @@
-//! Counts of the live slots of a few buckets, and estimates for an array from them.
-ghost use Rattle.std.specs.Prelude.{◌≡◌, ◌+◌, ◌-◌, ◌^◌, ◌<◌, ◌≤◌, length, min};
-ghost use Rattle.bucket_table.specs.Resize.Sampling.{counted, estimate, live_counts};
+//! When a resize is tried: by the live slots of a few buckets near one, or by one overfull bucket.
+ghost use Rattle.std.specs.Prelude.{◌≡◌, ◌+◌, ◌-◌, ◌^◌, ◌<◌, ◌≤◌, length, min, ℕ, [], ◌↔◌, IsTrue};
+ghost use Rattle.std.specs.Prelude.{Ok, true};
+ghost use Rattle.bucket_table.specs.Resize.Sampling.{counted, estimate, live_counts, IsCrowded};
+ghost use Rattle.bucket_table.specs.Resize.Sampling.{IsDeserted};
+ghost use Rattle.bucket_table.specs.Views.ArraysView.{ArePlaced, pairs_of};
+ghost use Rattle.bucket_table.specs.Views.Keeping.{Keeps};
+ghost use Rattle.bucket_table.specs.Views.Sides.{buckets_on};
+ghost use Rattle.bucket_slots.specs.ArrayView.{bucket_at};
+ghost use Rattle.bucket_slots.specs.BucketView.{pairs_in};
+ghost use Rattle.bucket_table.specs.Resize.Asking.{AsksGrowth, AsksShrinking, ResizesIf, ShrinksBy};
+ghost use Rattle.bucket_slots.specs.Homes.{IsHome};
+ghost use Rattle.bucket_table.specs.Map.Counting.{counted_to};
+ghost use Rattle.bucket_slots.specs.Sizing.{IsLength};
+ghost use Rattle.bucket_table.specs.Resize.Overfull.{GrowsIfOverfull, HasFullHome, MaySplit};
+ghost use Rattle.bucket_table.specs.Resize.Overfull.{TriesSplit};
 
+use super::{Arrays, Side};
+use bucket_slots::bucket::BUCKET_LEN;
 use bucket_slots::bucket_array::BucketArray;
 use bucket_slots::lru::LruList;
+use std::alloc::AllocError;
 
 /// Returns an estimate of the number of live slots of an array: those of `size` buckets from
 /// `start` on, times the number of such samples in the array. Sum and product saturate.
@@ -37,3 +53,225 @@ pub(crate) fn live_slots<K, V, L: LruList, const TYPE: u8>(
     }
     live
 }
+
+impl<K: Drop, V: Drop, L: LruList + Drop, const TYPE: u8> Arrays<K, V, L, TYPE> {
+    /// Resizes if the buckets near this index have few live slots.
+    ///
+    /// If allocation fails, nothing changes.
+    #[inline(never)]
+    pub(crate) fn try_shrink(&mut self, index: usize)
+        ensures asked { ResizesIf (AsksShrinking self.old index) self.old self.new }
+        ensures kept { Keeps self.old self.new }
+        ensures placed { (hash : K → ℕ) → ArePlaced hash self.old → ArePlaced hash self.new }
+    {
+        if !self.asks_shrinking(index) {
+            return;
+        }
+        let _ = self.try_resize();
+    }
+
+    /// Does what `try_shrink` does if a bucket has no live pair left.
+    #[inline(always)]
+    pub(crate) fn shrink_emptied(&mut self, side: Side, index: usize)
+        requires within { index < length (buckets_on self.old side) }
+        ensures asked { ResizesIf ((pairs_in (bucket_at (buckets_on self.old side) index) ≡ [])
+            × AsksShrinking self.old index) self.old self.new }
+        ensures kept { Keeps self.old self.new }
+        ensures placed { (hash : K → ℕ) → ArePlaced hash self.old → ArePlaced hash self.new }
+    {
+        self.room_of(side);
+        let left = self.bucket_of(side, index).len();
+        self.shrink_left(side, index, left, None);
+    }
+
+    /// Does what `try_shrink` does if `left`, the number of live pairs left in a bucket, is 0. If
+    /// the number of pairs in the arrays is given, it shrinks only if that agrees, as `shrink_to`
+    /// does.
+    #[inline(always)]
+    pub(crate) fn shrink_left(
+        &mut self,
+        side: Side,
+        index: usize,
+        left: usize,
+        pairs: Option<usize>,
+    )
+        requires within { index < length (buckets_on self.old side) }
+        requires left { left ≡ length (pairs_in (bucket_at (buckets_on self.old side) index)) }
+        ensures asked { ShrinksBy pairs (pairs_in (bucket_at (buckets_on self.old side) index) ≡ [])
+            index self.old self.new }
+        ensures kept { Keeps self.old self.new }
+        ensures placed { (hash : K → ℕ) → ArePlaced hash self.old → ArePlaced hash self.new }
+    {
+        if left != 0 {
+            return;
+        }
+        match pairs {
+            None => self.try_shrink(index),
+            Some(pairs) => self.shrink_to(index, pairs),
+        }
+    }
+
+    /// Makes the current array the old one, and an empty array of twice its slots the current one,
+    /// if `count` is at least a pair for each 8 slots, and twice the slots do not exceed the
+    /// maximum. Returns whether it did.
+    ///
+    /// # Errors
+    ///
+    /// Allocation failed: nothing changes.
+    #[inline(never)]
+    pub(crate) fn double(&mut self, count: usize) -> Result<bool, AllocError>
+        requires alone { length self.old.linked ≡ 0 }
+        requires count { count ≡ counted_to (pairs_of self.old) }
+        ensures grown { (hash : ℕ) → HasFullHome hash self.old
+            → GrowsIfOverfull hash self.old result self.new }
+        ensures kept { Keeps self.old self.new }
+        ensures placed { (hash_of : K → ℕ) → ArePlaced hash_of self.old
+            → ArePlaced hash_of self.new }
+    {
+        let len = self.len();
+        if count < len * (BUCKET_LEN / 8) {
+            return Ok(false);
+        }
+        if len * (2 * BUCKET_LEN) > self.maximum {
+            return Ok(false);
+        }
+        match self.remake_array(len * (2 * BUCKET_LEN)) {
+            Ok(()) => Ok(true),
+            Err(refused) => Err(refused),
+        }
+    }
+
+    /// Makes the current array the old one, and an empty array of twice its slots the current one,
+    /// if the home of a hash has as many pairs as own slots, there is no old array, and twice the
+    /// slots do not exceed the maximum. Returns whether it did.
+    ///
+    /// # Errors
+    ///
+    /// Allocation failed: nothing changes.
+    #[inline(never)]
+    pub(crate) fn split_home(&mut self, hash: u64) -> Result<bool, AllocError>
+        ensures split { TriesSplit hash self.old result self.new }
+        ensures kept { Keeps self.old self.new }
+        ensures placed { (hash_of : K → ℕ) → ArePlaced hash_of self.old
+            → ArePlaced hash_of self.new }
+        ensures long { result ≡ Ok true → IsLength (length self.new.linked)
+            × IsLength (length self.new.current) }
+    {
+        if !self.may_split(hash) {
+            return Ok(false);
+        }
+        match self.remake_array(self.len() * (2 * BUCKET_LEN)) {
+            Ok(()) => {
+                let _old_len = self.old_len();
+                let _len = self.len();
+                Ok(true)
+            }
+            Err(refused) => Err(refused),
+        }
+    }
+}
+
+impl<K, V, L: LruList, const TYPE: u8> Arrays<K, V, L, TYPE> {
+    #[inline(never)]
+    pub(crate) fn asks_growth(&self, index: usize) -> bool
+        ensures { IsTrue result ↔ AsksGrowth self.now index }
+    {
+        if self.len() == 0 || self.has_old() {
+            return false;
+        }
+        is_crowded(self.array_of(Side::Current), index)
+    }
+
+    pub(crate) fn asks_shrinking(&self, index: usize) -> bool
+        ensures { IsTrue result ↔ AsksShrinking self.now index }
+    {
+        if self.len() == 0 || self.has_old() {
+            return false;
+        }
+        let array = self.array_of(Side::Current);
+        if array.num_slots() <= self.minimum {
+            return false;
+        }
+        is_deserted(array, index)
+    }
+
+    /// Returns whether there is no old array, and the home of a hash has enough pairs to be
+    /// overfull.
+    #[inline(always)]
+    pub(crate) fn has_full_home(&self, hash: u64) -> bool
+        ensures { IsTrue result ↔ HasFullHome hash self.now }
+    {
+        if self.has_old() {
+            return false;
+        }
+        if !self.has_current() {
+            return false;
+        }
+        let index = self.home(hash);
+        self.room_of(Side::Current);
+        self.bucket_of(Side::Current, index).len() >= OVERFULL_LEN
+    }
+
+    /// Returns whether there is no old array, the home of a hash has as many pairs as own slots,
+    /// and twice the slots do not exceed the maximum.
+    #[inline(always)]
+    fn may_split(&self, hash: u64) -> bool
+        ensures { IsTrue result ↔ MaySplit hash self.now }
+    {
+        if self.has_old() {
+            return false;
+        }
+        if !self.has_current() {
+            return false;
+        }
+        let index = self.home(hash);
+        self.room_of(Side::Current);
+        if self.bucket_of(Side::Current, index).len() != BUCKET_LEN {
+            return false;
+        }
+        self.len() * (2 * BUCKET_LEN) <= self.maximum
+    }
+
+    /// Returns the index of a hash's home in the old array.
+    #[inline(always)]
+    pub(crate) fn old_home(&self, hash: u64) -> usize
+        requires { 0 < length self.now.linked }
+        ensures { IsHome (length self.now.linked) hash result }
+    {
+        match self.linked.array() {
+            None => unreachable!(),
+            Some(array) => array.bucket_index(hash),
+        }
+    }
+}
+
+/// Returns whether many slots near this index are live.
+fn is_crowded<K, V, L: LruList, const TYPE: u8>(
+    array: &BucketArray<K, V, L, TYPE>,
+    index: usize,
+) -> bool
+    ensures { IsTrue result ↔ IsCrowded (live_counts array.now) index }
+{
+    let _len = array.len();
+    let size = array.small_sample_size();
+    let live = live_slots(array, index % size, size);
+    BucketArray::<K, V, L, TYPE>::need_enlarge(size * BUCKET_LEN, live)
+}
+
+/// Returns whether few slots near this index are live.
+fn is_deserted<K, V, L: LruList, const TYPE: u8>(
+    array: &BucketArray<K, V, L, TYPE>,
+    index: usize,
+) -> bool
+    ensures { IsTrue result ↔ IsDeserted (live_counts array.now) index }
+{
+    let _len = array.len();
+    let size = array.small_sample_size();
+    let live = live_slots(array, index % size, size);
+    BucketArray::<K, V, L, TYPE>::need_shrink(size * BUCKET_LEN, live)
+}
+
+/// The number of live pairs that makes a bucket overfull: one and a half for each own slot.
+const OVERFULL_LEN: usize = BUCKET_LEN / 2 * 3;
+
+const _: () = prove!(OVERFULL_LEN == 48);

@@ -1,4 +1,4 @@
-//! Touching, marking and removing pairs in a bucket of either side, for calls by key and locked
+//! What is done to the pair in a slot of a bucket of either side, for calls by key and locked
 //! buckets.
 ghost use Rattle.std.specs.Prelude.{◌≡◌, ◌≢◌, ◌%◌, ◌<◌, ℕ, Some, IsTrue, length};
 ghost use Rattle.bucket_slots.specs.BucketView.{BucketView, bucket_with_value, pairs_in, slot_in};
@@ -15,7 +15,7 @@ ghost use Rattle.bucket_table.specs.Resize.Asking.{RemovesAndShrinks};
 ghost use Rattle.bucket_table.specs.Views.Sides.{arrays_with, bucket_on, buckets_on};
 ghost use Rattle.bucket_table.specs.Views.Keeping.{Keeps};
 
-use super::lending::{current_in, insert_in};
+use super::side::{current_in, insert_in};
 use super::{Arrays, Side};
 use crate::hash_table::NotInserted;
 use bucket_slots::bucket::{CACHE, EntryPtr, Generation, INDEX, KeyProbe};

@@ -24,6 +24,11 @@ ghost use Rattle.std.specs.Borrow.{sem};
 ghost use Rattle.std.specs.Prelude.{◌%◌, ◌≡◌, ◌≢◌, IfSome, IsTrue, OnOk};
 ghost use Rattle.std.specs.Prelude.{Some, if◌then◌else◌, is_ok, length};
 
+mod cursor;
+mod shrink;
+mod walk;
+mod writer;
+
 use crate::arrays::Side;
 use crate::hash_table::HashTable;
 use crate::key_hash::KeyHash;

@@ -1,16 +1,96 @@
-//! Look-ups: by key, or by a probe in code without `K: Eq`.
-ghost use Rattle.std.specs.Prelude.{◌≡◌, ◌+◌, ◌≤◌, true, IfSome, IfNone};
-ghost use Rattle.std.specs.Borrow.{Bor};
-ghost use Rattle.bucket_table.specs.Views.ArraysView.{pairs_of};
+//! Look-ups by key or by a probe, and loans of the pair that is found, for reading or for writing.
+ghost use Rattle.std.specs.Prelude.{◌≡◌, ◌<◌, IfSome, IfNone, IsTrue, Some, length, true, ◌+◌, ◌≤◌};
+ghost use Rattle.std.specs.Prelude.{false};
+ghost use Rattle.std.specs.Borrow.{Bor, sem};
+ghost use Rattle.bucket_slots.specs.BucketView.{slot_in};
+ghost use Rattle.bucket_slots.specs.Homes.{IsHome};
+ghost use Rattle.bucket_slots.specs.Slots.{is_live, live_pair};
+ghost use Rattle.bucket_table.specs.Views.ArraysView.{pairs_of, TableView};
+ghost use Rattle.bucket_table.specs.Map.ByKey.{StandsAt};
+ghost use Rattle.bucket_table.specs.Map.Finding.{Finds, FindsBucket};
 ghost use Rattle.bucket_table.specs.Map.LookingUp.{IsAbsent, IsThere, looked_up_len};
-ghost use Rattle.bucket_table.specs.Map.Preparing.{IsPrepared};
+ghost use Rattle.bucket_table.specs.Map.MapState.{ChangesValue, state_of, KeepsPairs};
+ghost use Rattle.bucket_table.specs.Views.Sides.{bucket_on, buckets_on};
+ghost use Rattle.bucket_table.specs.Views.Locking.{IsLocked};
+ghost use Rattle.bucket_table.specs.Map.Preparing.{IsReady, IsPrepared};
+ghost use Rattle.bucket_table.specs.declared.arrays.side.Side.TheVariants.{Current};
+ghost use Rattle.bucket_table.specs.declared.hash_table.ResizeRule.{ResizeRule};
+ghost use Rattle.bucket_table.specs.declared.hash_table.ResizeRule.TheVariants.{Sampled};
 
-use crate::hash_table::HashTable;
+use crate::arrays::{Side, Spot};
+use crate::hash_table::{HashTable, ResizeRule};
 use crate::key_hash::KeyHash;
-use bucket_slots::bucket::{EqProbe, KeyProbe};
+use bucket_slots::bucket::{EntryPtr, EqProbe, KeyProbe};
 use bucket_slots::lru::LruList;
 
 impl<K: Eq, V, H: KeyHash<K>, L: LruList, const TYPE: u8> HashTable<K, V, H, L, TYPE> {
+    ghost use Rattle.bucket_table.specs.Map.Lending.{LendsSlot, with_value};
+
+    /// Returns the live slot with an equal key, on either side, or `None` if the map has none.
+    #[inline(always)]
+    pub(super) fn spot_of(&self, key: &K, hash: u64) -> Option<Spot<K, V, TYPE>>
+        requires own_hash { hash ≡ H.hash_of self.now.hasher key.now }
+        ensures found { IfSome result (λ spot.
+            StandsAt (λ own. K.eq own key.now) self.now.arrays spot.side spot.index spot.at) }
+        ensures absent { IfNone result
+            (IsAbsent (λ own. K.eq own key.now) (pairs_of self.now.arrays)) }
+    {
+        self.spot_by(hash, &mut EqProbe::new(key))
+    }
+
+    /// Returns the first live slot that matches a probe, on either side, or `None` if the map has
+    /// none. Moves and allocates nothing.
+    ///
+    /// O(blocks in two chains).
+    #[inline(always)]
+    pub fn spot_by<P: KeyProbe<K>>(&self, hash: u64, probe: &mut P) -> Option<Spot<K, V, TYPE>>
+        requires own_hash { (key : K)
+            → P.wants probe.old key ≡ true
+            → H.hash_of self.now.hasher key ≡ hash }
+        ensures found { IfSome result (λ spot.
+            StandsAt (P.wants probe.old) self.now.arrays spot.side spot.index spot.at) }
+        ensures absent { IfNone result (IsAbsent (P.wants probe.old) (pairs_of self.now.arrays)) }
+        ensures fixed { P.wants probe.new ≡ P.wants probe.old }
+    {
+        match self.arrays.search_on(Side::Old, hash, probe) {
+            Some(spot) => Some(spot),
+            None => self.arrays.search_on(Side::Current, hash, probe),
+        }
+    }
+
+    /// Returns the first live slot that matches a probe, or `None` if the map has none. Each source
+    /// of the hash's home must be killed.
+    #[inline(always)]
+    pub(super) fn spot_at_home<P: KeyProbe<K>>(
+        &self,
+        hash: u64,
+        probe: &mut P,
+    ) -> Option<Spot<K, V, TYPE>>
+        requires own_hash { (key : K)
+            → P.wants probe.old key ≡ true
+            → H.hash_of self.now.hasher key ≡ hash }
+        requires ready { IsReady self.now.arrays hash }
+        ensures found { IfSome result (λ spot.
+            StandsAt (P.wants probe.old) self.now.arrays spot.side spot.index spot.at) }
+        ensures absent { IfNone result (IsAbsent (P.wants probe.old) (pairs_of self.now.arrays)) }
+        ensures fixed { P.wants probe.new ≡ P.wants probe.old }
+    {
+        self.arrays.room_of(Side::Current);
+        let index = self.arrays.home(hash);
+        match self
+            .arrays
+            .array_of(Side::Current)
+            .find_by(index, hash, probe)
+        {
+            Some(at) => Some(Spot {
+                side: Side::Current,
+                index,
+                at,
+            }),
+            None => None,
+        }
+    }
+
     /// Returns the pair with an equal key, or `None` if the map has none.
     ///
     /// Moves and allocates nothing. O(blocks in two chains). scc: `HashTable::peek_entry`.
@@ -57,6 +137,48 @@ impl<K: Eq, V, H: KeyHash<K>, L: LruList, const TYPE: u8> HashTable<K, V, H, L, 
     {
         self.arrays.peek_by(hash, probe)
     }
+
+    /// Returns the pair in a live slot.
+    ///
+    /// O(blocks of the chain).
+    #[inline(always)]
+    pub fn entry_at(&self, spot: &Spot<K, V, TYPE>) -> (&K, &V)
+        requires within { spot.now.index < length (buckets_on self.now.arrays spot.now.side) }
+        requires live_slot { IsTrue (is_live
+            (slot_in (bucket_on self.now.arrays spot.now.side spot.now.index) spot.now.at)) }
+        ensures { live_pair
+            (slot_in (bucket_on self.now.arrays spot.now.side spot.now.index) spot.now.at)
+            ≡ Some (result.0.now, result.1.now) }
+    {
+        self.arrays.entry_of(spot.side, spot.index, &spot.at)
+    }
+
+    /// Lends the pair in a live slot of a bucket of one side, with its value for writing. What is
+    /// written to the value is in the table after the loan.
+    ///
+    /// O(blocks of the chain).
+    #[inline(always)]
+    pub fn entry_mut_at(
+        &mut self,
+        side: Side,
+        index: usize,
+        at: &EntryPtr<K, V, TYPE>,
+    ) -> (&K, &mut V)
+        requires within { index < length (buckets_on self.old.arrays side) }
+        requires live_slot { IsTrue (is_live
+            (slot_in (bucket_on self.old.arrays side index) at.now)) }
+        ensures* writes_back { sem 𝓛
+            (LendsSlot K.row V.row H.row L.row TYPE K.PartialEq H.KeyHash
+            (record { KEEPS = L.KEEPS; listed = L.listed; IsTail = L.IsTail }) L.Default
+            self.entry side index at.now result.1) }
+        ensures pair { live_pair (slot_in (bucket_on self.old.arrays side index) at.now)
+            ≡ Some (result.0.now, result.1.now) }
+        ensures map { (value : V) → ChangesValue (state_of TYPE self.old)
+            (result.0.now, result.1.now) value
+            (state_of TYPE (with_value self.old side index at.now value)) }
+    {
+        self.arrays.entry_of_mut(side, index, at)
+    }
 }
 
 impl<K: Eq + Drop, V: Drop, H: KeyHash<K>, L: LruList + Drop, const TYPE: u8> HashTable<
@@ -66,6 +188,8 @@ impl<K: Eq + Drop, V: Drop, H: KeyHash<K>, L: LruList + Drop, const TYPE: u8> Ha
     L,
     TYPE,
 > {
+    ghost use Rattle.bucket_table.specs.Map.Lending.{LendsUnder};
+
     /// Calls `reader` with the pair with an equal key, and returns its result, or `None` if the map
     /// has none; then `reader` isn't called.
     ///
@@ -89,5 +213,93 @@ impl<K: Eq + Drop, V: Drop, H: KeyHash<K>, L: LruList + Drop, const TYPE: u8> Ha
             Some((own, value)) => Some(reader(own, value)),
             None => None,
         }
+    }
+
+    /// Lends the value of the pair with an equal key for writing, or returns `None` exactly if the
+    /// map has none.
+    ///
+    /// Once the loan ends, the pair has the value that was last written, and no other pair has
+    /// changed. Works a unit. May allocate, and never fails.
+    ///
+    /// O(unit).
+    #[inline(always)]
+    pub fn get_mut(&mut self, key: &K) -> Option<&mut V>
+        ensures* writes_back { sem 𝓛
+            (LendsUnder K.row V.row H.row L.row TYPE K.PartialEq H.KeyHash
+            (record { KEEPS = L.KEEPS; listed = L.listed; IsTail = L.IsTail }) L.Default
+            self.entry false (λ own. K.eq own key.now)
+            (H.hash_of self.entry.now.hasher key.now) result) }
+        ensures found { IfSome result (λ loan. (own : K)
+            × IsThere (λ own. K.eq own key.now) (pairs_of self.old.arrays) (own, loan.now)) }
+        ensures absent { IfNone result
+            (IsAbsent (λ own. K.eq own key.now) (pairs_of self.old.arrays)) }
+    {
+        let hash = self.hash(key);
+        self.get_mut_by(hash, &mut EqProbe::new(key))
+    }
+
+    /// Lends the value of the first pair that matches a probe for writing, or returns `None`
+    /// exactly if the map has none. The probe must match only keys of this hash.
+    ///
+    /// Once the loan ends, the pair has the value that was last written, and no other pair has
+    /// changed. Works a unit. May allocate, and never fails.
+    ///
+    /// O(unit).
+    #[inline(always)]
+    pub fn get_mut_by<P: KeyProbe<K>>(&mut self, hash: u64, probe: &mut P) -> Option<&mut V>
+        requires own_hash { (key : K)
+            → P.wants probe.old key ≡ true
+            → H.hash_of self.old.hasher key ≡ hash }
+        ensures* writes_back { sem 𝓛
+            (LendsUnder K.row V.row H.row L.row TYPE K.PartialEq H.KeyHash
+            (record { KEEPS = L.KEEPS; listed = L.listed; IsTail = L.IsTail }) L.Default
+            self.entry false (P.wants probe.old) hash result) }
+        ensures found { IfSome result (λ loan.
+            (own : K) × IsThere (P.wants probe.old) (pairs_of self.old.arrays) (own, loan.now)) }
+        ensures absent { IfNone result (IsAbsent (P.wants probe.old) (pairs_of self.old.arrays)) }
+        ensures fixed { P.wants probe.new ≡ P.wants probe.old }
+    {
+        match self.fetch_spot(hash, probe) {
+            Some(spot) => Some(self.entry_mut_at(spot.side, spot.index, &spot.at).1),
+            None => None,
+        }
+    }
+
+    /// Finds the bucket for a writer of a hash whose home is ready, as `find` does after it has
+    /// worked the unit. Returns its side and its index.
+    ///
+    /// O(buckets that a resize makes).
+    #[inline(always)]
+    pub(super) fn find_ready(&mut self, hash: u64) -> (Side, usize)
+        requires ready { IsReady self.old.arrays hash }
+        ensures map { KeepsPairs (state_of TYPE self.old) (state_of TYPE self.new) }
+        ensures locked { IsLocked self.new.arrays result.0 result.1 }
+        ensures home { IsHome (length (buckets_on self.new.arrays result.0)) hash result.1 }
+        ensures found { (first : TableView K V H) → IsPrepared TYPE hash first self.old
+            → FindsBucket Sampled TYPE hash first result.0 result.1 self.new }
+    {
+        let index = self.arrays.home(hash);
+        let side = self.arrays.grow_at(hash, index);
+        (side, index)
+    }
+
+    /// Returns the current bucket that `find` would return for a writer of a hash, if the array has
+    /// at most four buckets and `find` would change nothing.
+    #[inline(always)]
+    pub(super) fn short_home(&self, hash: u64) -> Option<usize>
+        ensures { IfSome result (λ index. (rule : ResizeRule)
+            → FindsBucket rule TYPE hash self.now Current index self.now) }
+    {
+        self.arrays.short_home(hash)
+    }
+
+    /// Returns the current bucket that `find` would return for a writer of a hash, if its digest
+    /// shows that `find` would change nothing.
+    #[inline(always)]
+    pub(super) fn roomy_home(&self, hash: u64) -> Option<usize>
+        ensures { IfSome result (λ index. (rule : ResizeRule)
+            → FindsBucket rule TYPE hash self.now Current index self.now) }
+    {
+        self.arrays.roomy_home(hash)
     }
 }

@@ -1,5 +1,0 @@
-use Rattle.bucket_table.proofs.Resize.PlanIsOne.{plan_is_one}
-use Rattle.bucket_table.proofs.arrays.plan.plans_are_one.Goals as goal
-
-pub returns : goal.returns
-returns c = λ counts minimum maximum plan other is other_is. plan_is_one counts minimum maximum plan other is other_is

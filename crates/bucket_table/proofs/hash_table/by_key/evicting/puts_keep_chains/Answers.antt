@@ -1,5 +1,0 @@
-use Rattle.bucket_table.proofs.Map.PutSlots.{chain-slots_put}
-use Rattle.bucket_table.proofs.hash_table.by_key.evicting.puts_keep_chains.Goals as goal
-
-pub returns : goal.returns
-returns g c = λ keeps bucket gone pair byte went. chain-slots_put keeps bucket gone pair byte went
