@@ -1,7 +1,7 @@
 #!/usr/bin/env bash
 # Runs the shell commands of README and of docs/bhtable.md in an unbuilt copy of the repository: the
-# replies of `./bhtable` must be those that the two pages show, and README's example must print what
-# its comments say. README's set and cache are run too, and its clauses must be those of the function
+# replies of `./bhtable` must be those that README shows, and README's example must print what its
+# comments say. README's set and cache are run too, and its clauses must be those of the function
 # that it names. This also passes if the example's crate was added to the repository, as README
 # describes.
 #

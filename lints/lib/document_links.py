@@ -10,7 +10,7 @@ import re
 import subprocess
 import sys
 
-WORDS = 20_000
+WORDS = 17_000
 
 # Names in backticks that are no files of the repository: a kit's files, build outputs, and a reader's own.
 ELSEWHERE = re.compile(r"rattle/.*|bindings/out/.*|crates/NAME/out|libbucket\.(?:a|so)|mine\.\w+|crates/ages(?:/.*)?")

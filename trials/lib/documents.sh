@@ -4,8 +4,7 @@
 #   block DOCUMENT WORD NUMBER    prints the text of the NUMBERth block that begins with ```WORD
 #   blocks DOCUMENT [WORD]        prints how many blocks begin so; the default is ```sh
 #   play DOCUMENT NUMBER FOLDER   runs the lines of a ```sh block in one shell, in FOLDER: each must end
-#                                 with status 0. The output goes to $folder/output. If lines begin with
-#                                 `$ `, only those are run, and the other lines are the expected output
+#                                 with status 0. The output goes to $folder/output
 #   check_unplayed DOCUMENT       each line of $unplayed must be in the document
 #   play_programs DOCUMENT COPY   runs the ```rust blocks, each a program, in turn and without proof, as
 #                                 one crate in a copy of the repository. Their output must be what
@@ -27,12 +26,7 @@ blocks() {
 
 # commands DOCUMENT NUMBER: prints the commands of a block, without comments.
 commands() {
-    local text
-    text=$(block "$1" sh "$2")
-    if grep -q '^\$ ' <<<"$text"; then
-        text=$(sed -n 's/^\$ //p' <<<"$text")
-    fi
-    sed 's/  *# .*$//' <<<"$text"
+    block "$1" sh "$2" | sed 's/  *# .*$//'
 }
 
 play() {
@@ -40,10 +34,6 @@ play() {
     [ -s "$folder/commands" ] || return
     (cd "$3" && bash -e -o pipefail "$folder/commands") >"$folder/output" 2>"$folder/log" </dev/null ||
         fail "$1, block $2: a command failed"
-    if block "$1" sh "$2" | grep -q '^\$ '; then
-        block "$1" sh "$2" | grep -v '^\$ ' >"$folder/below"
-        diff "$folder/below" "$folder/output" >"$folder/log" || fail "$1, block $2: shown (<) and printed (>) differ"
-    fi
     played=$((${played:-0} + $(wc -l <"$folder/commands")))
 }
 
