@@ -3,6 +3,7 @@ use crate::serve;
 use std::alloc::Global;
 use std::fmt::Debug;
 use std::io::{Read, Write};
+use std::ops::Range;
 use std::process::Abort;
 use std::test::Fail;
 
@@ -21,8 +22,8 @@ type Story = (&'static str, &'static [&'static [Row]]);
 enum Row {
     // This text.
     Say(&'static str, &'static str),
-    // This text for each number of a half-open range. The number replaces each `#`.
-    Each(u64, u64, &'static str, &'static str),
+    // This text for each number of a range. The number replaces each `#`.
+    Each(Range<u64>, &'static str, &'static str),
 }
 
 // Rows, several on a line.
@@ -59,8 +60,8 @@ fn tell(rt: &impl Abort, alloc: Global, (story, parts): &Story) -> Result<(), Fa
                     push_text(&mut lines, said, 0)?;
                     push_text(&mut replies, answered, 0)?;
                 }
-                Row::Each(from, to, said, answered) => {
-                    for number in *from..*to {
+                Row::Each(numbers, said, answered) => {
+                    for number in numbers.start..numbers.end {
                         push_text(&mut lines, said, number)?;
                         push_text(&mut replies, answered, number)?;
                     }

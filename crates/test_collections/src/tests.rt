@@ -2,6 +2,7 @@
 //! shrink, and what their iterators yield; and what the tests of the standard library's maps and
 //! sets and of the crate `lru` check. Tests of keys and values of other types are in `test_keys`.
 mod cache_changes;
+mod cache_stories;
 mod caches;
 mod copies;
 mod draining;
@@ -24,11 +25,7 @@ mod two_maps;
 mod two_sets;
 
 use std::fmt::Debug;
-use std::mem;
 use std::process::Abort;
-
-// A step's place: its story, and its number there.
-type At = (&'static str, usize);
 
 // Two values are equal. The row helps to find the place.
 fn check_same<T: PartialEq + Debug + Drop, R: Debug + Drop>(
@@ -40,14 +37,6 @@ fn check_same<T: PartialEq + Debug + Drop, R: Debug + Drop>(
     assert_eq!(rt; found, wanted, "row {row:?}");
 }
 
-// Writes a number through a mutable reference, and returns the earlier one.
-fn write(place: Option<&mut u64>, number: u64) -> Option<u64> {
-    match place {
-        Some(own) => Some(mem::replace(own, number)),
-        None => None,
-    }
-}
-
 // The pair of a key that has a value.
 fn pair_with(key: u64, value: Option<u64>) -> Option<(u64, u64)> {
     match value {
@@ -55,10 +44,3 @@ fn pair_with(key: u64, value: Option<u64>) -> Option<(u64, u64)> {
         None => None,
     }
 }
-
-// Steps, several on a line.
-macro_rules! steps {
-    ($($step:expr),+ $(,)?) => { &[$($step),+] };
-}
-
-use steps;

@@ -1,9 +1,27 @@
-//! A sequence of numbers that chooses the calls.
+//! A sequence of random numbers, and what it chooses: keys and calls.
+//!
+//! A course of random calls has phases. While a collection grows, few pairs are removed; while it
+//! shrinks, none is inserted. So it gets longer arrays, and shorter ones again.
 
 /// A linear congruential generator.
 #[derive(Drop)]
 pub struct Chance {
     state: u64,
+}
+
+/// A call by a key.
+#[derive(Clone, Copy)]
+pub enum KeyCall {
+    /// A pair is inserted.
+    Insert,
+    /// A value is inserted or written.
+    Upsert,
+    /// A pair is removed.
+    Remove,
+    /// The value of a present key is written.
+    Update,
+    /// A key is looked up.
+    Get,
 }
 
 impl Chance {
@@ -20,4 +38,40 @@ impl Chance {
             .wrapping_add(1442695040888963407);
         self.state >> 32
     }
+
+    /// The next call, while the collection grows or shrinks.
+    pub fn key_call(&mut self, grows: bool) -> KeyCall {
+        match (self.next() % 16, grows) {
+            (0..=3, true) => KeyCall::Insert,
+            (4..=6, true) => KeyCall::Upsert,
+            (0..=6, false) | (7..=8, _) => KeyCall::Remove,
+            (9..=11, _) => KeyCall::Update,
+            _ => KeyCall::Get,
+        }
+    }
+}
+
+/// Whether the call of this number is in a phase in which the collection grows. Each phase has so
+/// many calls.
+pub fn is_growing(number: u64, phase: u64) -> bool {
+    match number.checked_div(phase) {
+        Some(phases) => phases % 2 == 0,
+        None => true,
+    }
+}
+
+// An odd number with its bits spread.
+const SPREADING: u64 = 11400714819323198485;
+
+// Times the other number this is 1, modulo 2^64.
+const GATHERING: u64 = 17428512612931826493;
+
+/// The key of a number. The keys of small numbers take homes all over an array.
+pub fn spread(number: u64) -> u64 {
+    number.wrapping_mul(SPREADING)
+}
+
+/// The number of a key.
+pub fn gather(key: u64) -> u64 {
+    key.wrapping_mul(GATHERING)
 }

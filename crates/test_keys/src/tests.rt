@@ -19,11 +19,7 @@ mod tags;
 mod words;
 
 use std::fmt::Debug;
-use std::mem;
 use std::process::Abort;
-
-// A step's place: its story, and its number there.
-type At = (&'static str, usize);
 
 // Two values are equal. The row helps to find the place.
 fn check_same<T: PartialEq + Debug + Drop, R: Debug + Drop>(
@@ -34,18 +30,3 @@ fn check_same<T: PartialEq + Debug + Drop, R: Debug + Drop>(
 ) {
     assert_eq!(rt; found, wanted, "row {row:?}");
 }
-
-// Writes a number through a mutable reference, and returns the earlier one.
-fn write(place: Option<&mut u64>, number: u64) -> Option<u64> {
-    match place {
-        Some(own) => Some(mem::replace(own, number)),
-        None => None,
-    }
-}
-
-// Steps, several on a line.
-macro_rules! steps {
-    ($($step:expr),+ $(,)?) => { &[$($step),+] };
-}
-
-use steps;

@@ -1,6 +1,8 @@
 //! Evictions from one bucket of a cache: from own slots alone, in the order of the touches. The
 //! order can be taken out of a bucket, and pairs put behind it.
 use crate::checks::check_same;
+use crate::steps::Expect::*;
+use crate::steps::Set::*;
 use crate::steps::Step::*;
 use crate::steps::{Story, stories};
 use bucket_slots::bucket::CACHE;
@@ -14,43 +16,46 @@ type Stage = crate::stage::Stage<DoublyLinkedList, CACHE>;
 pub(crate) const EVICTIONS: &[Story] = stories! {
     // An own slot is free after the first, though the chain is not empty.
     "an eviction looks at own slots alone", 0:
-        Values(1, 0), Use(0, 40), Evict(Some(0)), Len(39), Evict(None), Len(39);
+        Set(Values(1, 0)), InsertAndTouch(0..40), Evict(Some(0)), Expect(Len(39)), Evict(None),
+        Expect(Len(39));
     "slot zero goes where nothing was touched", 0:
-        Values(1, 0), Fill(0, 32), Evict(Some(0)), Len(31), Put(40, (0, 0)), Evict(Some(40)),
-        Len(31), Evict(None), Len(31);
+        Set(Values(1, 0)), InsertRange(0..32), Evict(Some(0)), Expect(Len(31)), Insert(40, (0, 0)),
+        Evict(Some(40)), Expect(Len(31)), Evict(None), Expect(Len(31));
 };
 
 pub(crate) const ORDERS: &[Story] = stories! {
     "the order is taken, and nothing is listed then", 0:
-        Values(1, 0), Use(0, 4), Touch(1, true), TakeOrder(&[1, 3, 2, 0]), TakeOrder(&[]),
-        Fill(4, 32), Touch(2, true), TakeOrder(&[2]), Evict(Some(0)), Len(31);
+        Set(Values(1, 0)), InsertAndTouch(0..4), Touch(1, true), TakeOrder(&[1, 3, 2, 0]),
+        TakeOrder(&[]), InsertRange(4..32), Touch(2, true), TakeOrder(&[2]), Evict(Some(0)),
+        Expect(Len(31));
     "the order of a full bucket is taken", 0:
-        Use(0, 40), TakeOrder(&[
-            31, 30, 29, 28, 27, 26, 25, 24, 23, 22, 21, 20, 19, 18, 17, 16,
-            15, 14, 13, 12, 11, 10, 9, 8, 7, 6, 5, 4, 3, 2, 1, 0
-        ]), Len(40), Holds(0, 40);
+        InsertAndTouch(0..40), TakeOrder(&[
+            31, 30, 29, 28, 27, 26, 25, 24, 23, 22, 21, 20, 19, 18, 17, 16, 15, 14, 13, 12, 11, 10,
+            9, 8, 7, 6, 5, 4, 3, 2, 1, 0,
+        ]), Expect(Len(40)), Expect(Present(0..40));
     "a pair that comes as the oldest goes first", 0:
-        Values(1, 0), Use(0, 2), PutOldest(2, (0, 2)), PutOldest(3, (0, 3)), Fill(4, 32),
-        Evict(Some(3)), Fill(40, 41), Evict(Some(2)), Fill(41, 42), Evict(Some(0)), Fill(42, 43),
-        Evict(Some(1)), Fill(43, 44), Evict(Some(42)), Len(31);
+        Set(Values(1, 0)), InsertAndTouch(0..2), InsertOldest(2, (0, 2)), InsertOldest(3, (0, 3)),
+        InsertRange(4..32), Evict(Some(3)), InsertRange(40..41), Evict(Some(2)),
+        InsertRange(41..42), Evict(Some(0)), InsertRange(42..43), Evict(Some(1)),
+        InsertRange(43..44), Evict(Some(42)), Expect(Len(31));
     "the oldest of an empty list is the newest", 0:
-        PutOldest(7, (0, 0)), PutOldest(8, (0, 1)), TakeOrder(&[0, 1]), PutOldest(9, (0, 2)),
-        Touch(8, true), Touch(9, true), TakeOrder(&[2, 1]);
+        InsertOldest(7, (0, 0)), InsertOldest(8, (0, 1)), TakeOrder(&[0, 1]),
+        InsertOldest(9, (0, 2)), Touch(8, true), Touch(9, true), TakeOrder(&[2, 1]);
     "a pair of the chain isn't listed", 0:
-        Fill(0, 31), PutOldest(31, (0, 31)), PutOldest(32, (1, 0)), TakeOrder(&[31]);
+        InsertRange(0..31), InsertOldest(31, (0, 31)), InsertOldest(32, (1, 0)), TakeOrder(&[31]);
 };
 
 pub(crate) const NO_ORDER: &[Story] = stories! {
     "nothing is listed", 0:
-        Values(1, 0), PutOldest(0, (0, 0)), PutOldest(1, (0, 1)), Use(2, 32), TakeOrder(&[]),
-        Touch(1, true), TakeOrder(&[]), Evict(Some(0)), Len(31);
+        Set(Values(1, 0)), InsertOldest(0, (0, 0)), InsertOldest(1, (0, 1)), InsertAndTouch(2..32),
+        TakeOrder(&[]), Touch(1, true), TakeOrder(&[]), Evict(Some(0)), Expect(Len(31));
 };
 
 // One pair after another is inserted, up to twice the own slots; none is touched.
 #[test]
 fn untouched_pairs_are_evicted_at_slot_zero(rt: HostRuntime) -> Result<(), Fail> {
     let mut stage = Stage::new(rt.alloc());
-    stage.change(&rt, ("each key its own value", 0), &Values(1, 0));
+    stage.step(&rt, ("each key its own value", 0), &Set(Values(1, 0)))?;
     let mut in_slot_zero = 0;
     for key in 0..64u64 {
         let row = ("one more untouched pair", key as usize);
@@ -59,9 +64,9 @@ fn untouched_pairs_are_evicted_at_slot_zero(rt: HostRuntime) -> Result<(), Fail>
         } else {
             (Some(in_slot_zero), 31, 0)
         };
-        stage.change(&rt, row, &Evict(goes));
-        stage.change(&rt, row, &Len(left));
-        stage.step(&rt, row, &Put(key, (0, slot)))?;
+        stage.step(&rt, row, &Evict(goes))?;
+        stage.step(&rt, row, &Expect(Len(left)))?;
+        stage.step(&rt, row, &Insert(key, (0, slot)))?;
         if key >= 32 {
             in_slot_zero = key;
         }
@@ -76,14 +81,14 @@ fn a_bucket_that_is_empty_again_evicts_as_a_new_one(rt: HostRuntime) -> Result<(
     for pairs in 1..64u64 {
         let (first, goes) = if pairs < 32 { (0, None) } else { (1, Some(0)) };
         let round = [
-            Values(1, 0),
-            Use(0, pairs),
+            Set(Values(1, 0)),
+            InsertAndTouch(0..pairs),
             Evict(goes),
-            Lacks(0, first),
-            Drain(first, pairs),
-            Lacks(first, pairs),
+            Expect(Absent(0..first)),
+            RemoveRange(first..pairs),
+            Expect(Absent(first..pairs)),
             Evict(None),
-            Len(0),
+            Expect(Len(0)),
         ];
         let mut stage = Stage::new(rt.alloc());
         for _ in 0..3 {
@@ -101,24 +106,24 @@ fn touched_pairs_are_evicted_in_the_order_of_their_touches(rt: HostRuntime) -> R
     for pairs in 0..64u64 {
         let mut stage = Stage::new(rt.alloc());
         let mut plain: Vec<u64> = Vec::new(rt.alloc());
-        stage.change(&rt, ("each key its own value", 0), &Values(1, 0));
+        stage.step(&rt, ("each key its own value", 0), &Set(Values(1, 0)))?;
         for key in 0..pairs {
             let row = ("one more touched pair", key as usize);
             let oldest = if key < 32 { None } else { plain.pop() };
-            stage.change(&rt, row, &Evict(oldest));
-            stage.step(&rt, row, &Use(key, key.wrapping_add(1)))?;
+            stage.step(&rt, row, &Evict(oldest))?;
+            stage.step(&rt, row, &InsertAndTouch(key..key.wrapping_add(1)))?;
             plain.insert(0, key)?;
             if key >= 32 {
                 let Some(again) = stage.key_in((pairs % 32) as usize) else {
                     return Err("a free own slot".into());
                 };
-                stage.change(&rt, row, &Touch(again, true));
+                stage.step(&rt, row, &Touch(again, true))?;
                 plain.retain(|other| *other != again);
                 plain.insert(0, again)?;
             }
         }
         if pairs < 32 {
-            stage.change(&rt, ("a free own slot", 0), &Evict(None));
+            stage.step(&rt, ("a free own slot", 0), &Evict(None))?;
         } else {
             check_same(&rt, plain.len(), 32, pairs);
             evict_all(&rt, &mut stage, plain.as_slice())?;
@@ -137,11 +142,11 @@ fn a_removed_pair_leaves_the_others_in_their_order(rt: HostRuntime) -> Result<()
             let mut plain: Vec<u64> = Vec::new(rt.alloc());
             let end = gone.wrapping_add(132).wrapping_sub(touched);
             let steps = [
-                Values(1, 0),
-                Use(0, touched),
-                Drain(0, gone),
-                Fill(100, end),
-                Len(32),
+                Set(Values(1, 0)),
+                InsertAndTouch(0..touched),
+                RemoveRange(0..gone),
+                InsertRange(100..end),
+                Expect(Len(32)),
             ];
             stage.play(&rt, "touched pairs go", &steps)?;
             for key in gone..touched {
@@ -159,11 +164,11 @@ fn evict_all(rt: &impl Abort, stage: &mut Stage, listed: &[u64]) -> Result<(), F
     for oldest in listed.iter().rev() {
         let row = ("the oldest goes", *oldest as usize);
         let comes = oldest.wrapping_add(1000);
-        stage.change(rt, row, &Evict(Some(*oldest)));
-        stage.step(rt, row, &Fill(comes, comes.wrapping_add(1)))?;
+        stage.step(rt, row, &Evict(Some(*oldest)))?;
+        stage.step(rt, row, &InsertRange(comes..comes.wrapping_add(1)))?;
     }
     let in_slot_zero = stage.key_in(0);
     check_same(rt, in_slot_zero.is_some(), true, "slot 0");
-    stage.change(rt, ("nothing is listed", 0), &Evict(in_slot_zero));
+    stage.step(rt, ("nothing is listed", 0), &Evict(in_slot_zero))?;
     Ok(())
 }

@@ -3,18 +3,19 @@ ghost use Rattle.std.specs.Prelude.{◌==◌};
 ghost use Rattle.std.specs.Cmp.Rules.{comparing};
 ghost use Rattle.std.proofs.Common.{rules};
 
+use crate::by_lock::{Map, put_at};
 use crate::checks::check_same;
-use crate::growth::DOUBLED;
-use crate::steps::steps;
-use crate::tables::Step::*;
-use crate::tables::{At, Step, Story, tell};
-use bucket_slots::bucket::{Bucket, MAP};
+use crate::steps::Spot;
+use crate::tables::{check_slots, insert_range, new_map};
+use Step::*;
+use bucket_slots::bucket::{Bucket, EqProbe, MAP};
 use bucket_table::hash_table::{HashTable, ResizeRule};
 use bucket_table::key_hash::KeyHash;
 use bucket_table::script::ScriptHash;
 use std::cell::Cell;
+use std::ops::Range;
 use std::process::Abort;
-use std::test::Fail;
+use test_helpers::{At, steps};
 
 /// A number as a key, whose comparisons are counted.
 #[derive(Clone, Copy)]
@@ -62,29 +63,71 @@ struct Both<'c> {
     compared: &'c Cell<u64>,
 }
 
+/// A call with its result, or what is seen.
+enum Step {
+    /// Insert keys, each as its own value.
+    InsertRange(Range<u64>),
+    /// Insert a new key. In a table alone it is in the writer's bucket of this index, in this
+    /// place.
+    Insert(u64, usize, Spot),
+    /// Look a key up: whether it is found, and with how many keys it is compared.
+    LookUp(u64, bool, u64),
+    /// Expect so many slots of the current array, and this rehash word.
+    ExpectSlots(usize, Option<usize>),
+}
+
+/// What happens on a new map, or on a new map and a new bucket.
+struct Story {
+    name: &'static str,
+    hasher: ScriptHash,
+    steps: &'static [Step],
+}
+
 // A look-up compares only keys of its fingerprint: those of the own slots in order, then those of
 // the chain from its head on, which is the newest block of four. It stops at the first equal key.
 const LOOK_UPS: &[Story] = steps! {
     Story { name: "a look-up compares the keys with the fingerprint in two homes",
-        hasher: ScriptHash::Spread, minimum: 0, start: DOUBLED,
-        steps: steps! { Asks(5, true, 1), Asks(40, false, 0), Sees(128, Some(0)) } },
+        hasher: ScriptHash::Spread, steps: steps! {
+            InsertRange(0..31), InsertRange(128..159), ExpectSlots(64, None),
+            Insert(31, 0, (0, 31)), ExpectSlots(128, Some(0)), LookUp(5, true, 1),
+            LookUp(40, false, 0), ExpectSlots(128, Some(0)) } },
     // The newest block of the chain has keys 36 to 39, and comes before that of 32 to 35.
-    Story { name: "a look-up compares in slot order", hasher: ScriptHash::Zero, minimum: 0,
-        start: steps! { Puts(0, 40) }, steps: steps! {
-            Asks(0, true, 1), Asks(31, true, 32), Asks(36, true, 33), Asks(39, true, 36),
-            Asks(32, true, 37), Asks(35, true, 40), Asks(99, false, 40) } },
+    Story { name: "a look-up compares in slot order", hasher: ScriptHash::Zero, steps: steps! {
+        InsertRange(0..40), LookUp(0, true, 1), LookUp(31, true, 32), LookUp(36, true, 33),
+        LookUp(39, true, 36), LookUp(32, true, 37), LookUp(35, true, 40), LookUp(99, false, 40) } },
     // Each of 40 fingerprints has two keys. Keys up to 32 are in own slots. Keys 33 to 40 are in
     // the last two blocks of the chain, behind those of the keys from 257 on.
     Story { name: "a look-up compares no key of another fingerprint", hasher: ScriptHash::Id,
-        minimum: 0, start: steps! { Puts(1, 41), Puts(257, 297), Sees(64, None) },
         steps: steps! {
-            Asks(5, true, 1), Asks(261, true, 2), Asks(517, false, 2), Asks(296, true, 1),
-            Asks(40, true, 2), Asks(552, false, 2), Asks(0, false, 0), Asks(41, false, 0) } }
+            InsertRange(1..41), InsertRange(257..297), ExpectSlots(64, None), LookUp(5, true, 1),
+            LookUp(261, true, 2), LookUp(517, false, 2), LookUp(296, true, 1), LookUp(40, true, 2),
+            LookUp(552, false, 2), LookUp(0, false, 0), LookUp(41, false, 0) } }
 };
 
 #[test]
-fn a_probe_compares_up_to_the_first_equal_key(rt: HostRuntime) -> Result<(), Fail> {
-    tell(&rt, rt.alloc(), LOOK_UPS)
+fn a_probe_compares_up_to_the_first_equal_key(rt: HostRuntime) {
+    for story in LOOK_UPS {
+        let mut table = new_map(rt.alloc(), story.hasher, 0);
+        for (row, step) in story.steps.iter().enumerate() {
+            take(&rt, &mut table, (story.name, row), step);
+        }
+    }
+}
+
+// Takes a step on a table, and compares its result.
+fn take(rt: &impl Abort, table: &mut Map, at: At, step: &Step) {
+    match step {
+        InsertRange(keys) => insert_range(rt, table, at, keys),
+        Insert(key, index, spot) => {
+            check_same(rt, put_at(table, *key, &()), Some((*index, *spot)), at);
+        }
+        LookUp(key, found, compared) => {
+            let mut probe = EqProbe::new(key);
+            let there = table.peek_entry_by(table.hash(key), &mut probe).is_some();
+            check_same(rt, (there, probe.asked()), (*found, *compared), at);
+        }
+        ExpectSlots(slots, word) => check_slots(rt, table, at, *slots, *word),
+    }
 }
 
 #[test]
@@ -96,10 +139,8 @@ fn a_key_is_compared_as_often_as_a_probe(rt: HostRuntime) {
             bucket: Bucket::new(rt.alloc()),
             compared: &compared,
         };
-        for steps in [story.start, story.steps] {
-            for (row, step) in steps.iter().enumerate() {
-                both.take(&rt, (story.name, row), step);
-            }
+        for (row, step) in story.steps.iter().enumerate() {
+            both.take(&rt, (story.name, row), step);
         }
     }
 }
@@ -108,21 +149,22 @@ impl<'c> Both<'c> {
     // Takes a step, and compares its result.
     fn take(&mut self, rt: &impl Abort, at: At, step: &Step) {
         match step {
-            Puts(from, to) => {
-                for number in *from..*to {
-                    check_same(rt, self.put(number), true, (at, "puts", number));
+            InsertRange(numbers) => {
+                for number in numbers.start..numbers.end {
+                    check_same(rt, self.put(number), true, (at, "insert range", number));
                 }
             }
-            Lands(number, _, _) => check_same(rt, self.put(*number), true, (at, "lands", *number)),
-            Asks(number, found, asked) => {
-                let answers = [(*found, *asked); 4];
-                check_same(rt, self.look_up(*number), answers, (at, "asks", *number));
+            Insert(number, _, _) => {
+                check_same(rt, self.put(*number), true, (at, "insert", *number));
             }
-            Sees(slots, word) => {
+            LookUp(number, found, compared) => {
+                let answers = [(*found, *compared); 4];
+                check_same(rt, self.look_up(*number), answers, (at, "look up", *number));
+            }
+            ExpectSlots(slots, word) => {
                 let found = (self.map.num_slots(), self.map.rehashing_metadata());
-                check_same(rt, found, (*slots, *word), (at, "sees"));
+                check_same(rt, found, (*slots, *word), (at, "slots"));
             }
-            _ => check_same(rt, true, false, (at, "no step")),
         }
     }
 

@@ -1,5 +1,5 @@
 //! Courses of random calls on tables of each kind, compared with a map of the standard library.
-//! Times with many insertions and times with many removals alternate, so that tables get longer
+//! Phases in which a table grows and phases in which it shrinks alternate, so that it gets longer
 //! arrays and shorter ones again. Which tombstones are kept is random, and between the calls are
 //! some that no script makes.
 use crate::by_lock::{Table, put_at};
@@ -13,24 +13,21 @@ use std::alloc::Global;
 use std::collections::BTreeMap;
 use std::process::Abort;
 use std::test::Fail;
-use test_helpers::Chance;
+use test_helpers::{Chance, is_growing, spread};
 
 // How many calls a course has, and on how many keys.
 const CALLS: u64 = 20_000;
 
 const KEYS: u64 = 300;
 
-// How many calls mostly insert pairs, and how many then mostly remove them.
-const TIDE: u64 = 2500;
+// How many calls a phase has.
+const PHASE: u64 = 2500;
 
 // After how many calls an epoch and the tombstones that are kept are chosen anew, and after how
 // many some call is made that no script makes.
 const CHOICE: u64 = 10;
 
 const DIRECT: u64 = 50;
-
-// An odd number with its bits spread, so that keys take homes all over the array.
-const SPREADING: u64 = 11400714819323198485;
 
 /// The map that a table is, and a sequence of numbers that chooses the calls.
 #[derive(Drop)]
@@ -61,7 +58,7 @@ impl Course {
     }
 
     fn key(&mut self) -> u64 {
-        (self.chance.next() % KEYS).wrapping_mul(SPREADING)
+        spread(self.chance.next() % KEYS)
     }
 
     // An epoch, and whether each tombstone is kept.
@@ -117,17 +114,16 @@ fn remove<L: LruList + Drop, const TYPE: u8>(
     }
 }
 
-// Puts, removes or peeks a key. In times of insertions few are removed, in times of removals none
-// is put.
+// Puts, removes or peeks a key. While the table grows few are removed, while it shrinks none is put.
 fn call<L: LruList + Drop, const TYPE: u8>(
     rt: &impl Abort,
     table: &mut Table<L, TYPE>,
     course: &mut Course,
     now: &Answers,
-    comes: bool,
+    grows: bool,
 ) -> Result<(), Fail> {
     let key = course.key();
-    match (course.chance.next() % 8, comes) {
+    match (course.chance.next() % 8, grows) {
         (0..=4, true) => {
             let is_new = !course.map.contains_key(&key);
             check_same(rt, put_at(table, key, now).is_some(), is_new, ("put", key));
@@ -262,12 +258,12 @@ fn play<L: LruList + Drop, const TYPE: u8>(
         if number % DIRECT == 0 {
             call_directly(rt, &mut table, &mut course, &now)?;
         }
-        call(rt, &mut table, &mut course, &now, number / TIDE % 2 == 0)?;
+        call(rt, &mut table, &mut course, &now, is_growing(number, PHASE))?;
         course.sees(table.num_slots());
     }
     course.settle(rt, &mut table);
     for number in 0..KEYS {
-        let key = number.wrapping_mul(SPREADING);
+        let key = spread(number);
         check_same(
             rt,
             table.peek_entry(&key),

@@ -2,19 +2,20 @@
 use crate::by_key::find;
 use crate::by_lock::Map;
 use crate::checks::check_same;
-use crate::tables::At;
 use bucket_slots::bucket::{EntryPtr, MAP};
 use bucket_table::hash_table::{LockedBucket, Missing};
 use bucket_table::script::ScriptHash;
+use std::ops::Range;
 use std::process::Abort;
 use std::test::Fail;
+use test_helpers::At;
 
 type Locked<'a> = LockedBucket<'a, u64, u64, ScriptHash, (), MAP>;
 
 /// Keys that a cursor meets one after another in one bucket.
 pub(crate) struct Stop {
-    /// The first key, and the first that isn't meant.
-    pub(crate) keys: (u64, u64),
+    /// The keys.
+    pub(crate) keys: Range<u64>,
     /// The bucket's index, and how many slots its array has.
     pub(crate) bucket: (usize, usize),
     /// Whether each pair is taken out of the bucket.
@@ -46,7 +47,7 @@ fn go_over<'a>(
     stop: &Stop,
 ) -> Result<Option<Locked<'a>>, Fail> {
     let mut held = first;
-    for key in stop.keys.0..stop.keys.1 {
+    for key in stop.keys.start..stop.keys.end {
         let Some(mut locked) = held else {
             return Err("the cursor has ended".into());
         };

@@ -4,11 +4,13 @@ use crate::by_key::{kill_empty, mark_key, move_key, remove_at, write_key};
 use crate::checks::check_same;
 use crate::steps::{Answers, Kept, stories};
 use Act::*;
+use Expect::*;
 use bucket_slots::bucket::{Bucket, INDEX, MAP};
 use bucket_slots::bucket_array::BucketArray;
 use bucket_table::hash_table::{HashTable, ResizeRule};
 use bucket_table::script::ScriptHash;
 use std::alloc::Global;
+use std::ops::Range;
 use std::process::Abort;
 use std::rc::Rc;
 use std::test::Fail;
@@ -43,31 +45,37 @@ fn filled<const TYPE: u8>(
 
 /// A call on a bucket, or what is seen of it then.
 enum Act {
-    /// A key is inserted, with a clone and a test of which tombstones are kept.
-    Put(u64, Kept),
-    /// A clone is written over the value of each of these keys.
+    /// Insert a key, with a clone and a test of which tombstones are kept.
+    Insert(u64, Kept),
+    /// Write a clone over the value of each of these keys.
     Write(&'static [u64]),
-    /// So many slots are free then.
+    /// Reserve so many free slots.
     Reserve(usize),
-    /// The pairs of these keys are removed.
-    Take(&'static [u64]),
-    /// The pairs of all keys below a number are removed one after another, and each value dropped
-    /// at once: from the first key on, or backwards.
-    TakeAll(u64, bool),
-    /// The pairs of these keys become tombstones.
+    /// Remove the pairs of these keys.
+    Remove(&'static [u64]),
+    /// Remove the pairs of all keys below a number one after another, from the first key on, or
+    /// backwards. Each value is dropped at once.
+    RemoveAll(u64, bool),
+    /// Mark the pairs of these keys as removed.
     Mark(&'static [u64]),
-    /// The pairs of keys become tombstones one after another, and the bucket isn't killed before.
-    MarkUp(u64, u64),
-    /// A clearing, with a test of which tombstones are kept.
-    Clear(Kept),
-    /// The bucket has no live pair and is killed, then finds nothing, and is killed no second time.
+    /// Mark the pairs of keys as removed one after another. The bucket isn't killed before.
+    MarkRange(Range<u64>),
+    /// Drop tombstones, with a test of which are kept.
+    ClearTombstones(Kept),
+    /// Kill the bucket, which has no live pair. It finds nothing then, and is killed no second
+    /// time.
     Kill,
+    Expect(Expect),
+}
+
+/// What is expected of a bucket.
+enum Expect {
     /// The value and its clones are this many.
-    Count(usize),
+    Values(usize),
     /// So many pairs are live.
     Len(usize),
     /// An own slot has a value, live or a tombstone.
-    Own(usize),
+    OwnSlot(usize),
 }
 
 /// A name, how many keys from 0 on the bucket has at the start, and what happens then.
@@ -75,42 +83,47 @@ type Story = (&'static str, u64, &'static [Act]);
 
 const OF_MAPS: &[Story] = stories! {
     "each value is dropped once with its bucket", 41:
-        Count(42), Take(&[4, 39, 40]), Count(39);
+        Expect(Values(42)), Remove(&[4, 39, 40]), Expect(Values(39));
     // In own slots, in the chain's head and in its last block.
     "a value goes as another is written over it", 41:
-        Write(&[0, 31, 32, 35, 40]), Count(42), Len(41), Take(&[32, 40]), Count(40);
+        Write(&[0, 31, 32, 35, 40]), Expect(Values(42)), Expect(Len(41)), Remove(&[32, 40]),
+        Expect(Values(40));
     // Two free blocks stand behind the one of live pairs. That one is removed, and a pair is
     // inserted into one of them.
     "free blocks hold no value", 33:
-        Reserve(11), Count(34), Take(&[32]), Count(33), Put(50, Kept::All), Count(34);
+        Reserve(11), Expect(Values(34)), Remove(&[32]), Expect(Values(33)), Insert(50, Kept::All),
+        Expect(Values(34));
     // Of 50 blocks the last is removed first, or the head each time.
     "each removed value is dropped at once, in order", 232:
-        TakeAll(232, false), Len(0);
+        RemoveAll(232, false), Expect(Len(0));
     "each removed value is dropped at once, backwards", 232:
-        TakeAll(232, true), Len(0);
+        RemoveAll(232, true), Expect(Len(0));
 };
 
 const OF_INDEXES: &[Story] = stories! {
     // Two pairs in own slots are removed, and two in the chain.
     "a clearing drops what it lets go", 37:
-        Count(38), Mark(&[0, 31, 32, 36]), Count(38), Clear(Kept::All), Count(38),
-        Clear(Kept::None), Count(34), Clear(Kept::None), Count(34);
+        Expect(Values(38)), Mark(&[0, 31, 32, 36]), Expect(Values(38)), ClearTombstones(Kept::All),
+        Expect(Values(38)), ClearTombstones(Kept::None), Expect(Values(34)),
+        ClearTombstones(Kept::None), Expect(Values(34));
     // One pair is inserted and none dropped; then one is inserted and four are dropped, those in
     // the chain among them.
     "an insertion that clears drops what it lets go", 37:
-        Mark(&[3, 4, 33, 36]), Put(40, Kept::All), Count(39), Put(41, Kept::None), Count(36),
-        Len(35);
+        Mark(&[3, 4, 33, 36]), Insert(40, Kept::All), Expect(Values(39)), Insert(41, Kept::None),
+        Expect(Values(36)), Expect(Len(35));
     "marked pairs go with their bucket", 41:
-        Mark(&[0, 7, 32, 39, 40]), Count(42), Len(36);
+        Mark(&[0, 7, 32, 39, 40]), Expect(Values(42)), Expect(Len(36));
     // A bucket with live pairs stays. One with only tombstones is killed.
     "a clearing of marks alone drops all values", 41:
-        MarkUp(0, 41), Count(42), Clear(Kept::None), Count(1), Put(50, Kept::None), Count(2);
+        MarkRange(0..41), Expect(Values(42)), ClearTombstones(Kept::None), Expect(Values(1)),
+        Insert(50, Kept::None), Expect(Values(2));
     // The free blocks at the chain's end are dropped, and the one before them stays with its live
     // pair.
     "a clearing drops no value with a free block", 33:
-        Reserve(11), Mark(&[5]), Clear(Kept::All), Count(34), Clear(Kept::None), Count(33), Len(32);
+        Reserve(11), Mark(&[5]), ClearTombstones(Kept::All), Expect(Values(34)),
+        ClearTombstones(Kept::None), Expect(Values(33)), Expect(Len(32));
     "a killed bucket of an index keeps its marked pairs", 41:
-        MarkUp(0, 41), Kill, Count(42), Own(31);
+        MarkRange(0..41), Kill, Expect(Values(42)), Expect(OwnSlot(31));
 };
 
 #[test]
@@ -139,70 +152,101 @@ fn play<const TYPE: u8>(
     (story, _, acts): &Story,
 ) -> Result<(), Fail> {
     for (row, act) in acts.iter().enumerate() {
-        let at = (*story, row);
-        match act {
-            Put(key, kept) => insert_clone(bucket, *key, counted, kept)?,
-            Write(keys) => {
-                for key in *keys {
-                    let old = write_key(bucket, *key, 0, counted.clone()?);
-                    check_same(rt, old.is_some(), true, (at, "write", *key));
-                }
-            }
-            Reserve(slots) => bucket.reserve_slots(*slots)?,
-            TakeAll(keys, backwards) => {
-                for gone in 0..*keys {
-                    let left = keys.wrapping_sub(gone);
-                    let key = if *backwards {
-                        left.wrapping_sub(1)
-                    } else {
-                        gone
-                    };
-                    let taken = remove_at(bucket, key, 0).is_some();
-                    let found = (taken, Rc::strong_count(counted));
-                    check_same(rt, found, (true, left as usize), (at, "take all", key));
-                }
-            }
-            Count(count) => check_same(rt, Rc::strong_count(counted), *count, (at, "count")),
-            _ => change(rt, bucket, at, act),
-        }
+        take(rt, bucket, counted, (*story, row), act)?;
     }
     Ok(())
 }
 
-// Does what needs no memory, and compares what is seen.
-fn change<const TYPE: u8>(
+// Makes a call, or compares what is seen.
+fn take<const TYPE: u8>(
     rt: &impl Abort,
     bucket: &mut Counted<TYPE>,
+    counted: &Rc<i32>,
     row: (&str, usize),
     act: &Act,
-) {
+) -> Result<(), Fail> {
     match act {
-        Take(keys) => {
+        Insert(key, kept) => insert_clone(bucket, *key, counted, kept)?,
+        Write(keys) => write_clones(rt, bucket, counted, row, keys)?,
+        Reserve(slots) => bucket.reserve_slots(*slots)?,
+        Remove(keys) => {
             for key in *keys {
                 let taken = remove_at(bucket, *key, 0).is_some();
-                check_same(rt, taken, true, (row, "take", *key));
+                check_same(rt, taken, true, (row, "remove", *key));
             }
         }
+        RemoveAll(keys, backwards) => remove_all(rt, bucket, counted, row, *keys, *backwards),
         Mark(keys) => {
             for key in *keys {
                 let marked = mark_key(bucket, *key, 0, &());
                 check_same(rt, marked, true, (row, "mark", *key));
             }
         }
-        MarkUp(from, to) => {
-            for key in *from..*to {
+        MarkRange(keys) => {
+            for key in keys.start..keys.end {
                 let done = (kill_empty(bucket), mark_key(bucket, key, 0, &()));
-                check_same(rt, done, (false, true), (row, "mark up", key));
+                check_same(rt, done, (false, true), (row, "mark range", key));
             }
         }
-        Clear(kept) => check_same(rt, clear(bucket, kept), true, (row, "clear")),
+        ClearTombstones(kept) => check_same(rt, clear(bucket, kept), true, (row, "clear")),
         Kill => check_kill(rt, bucket),
-        Len(len) => check_same(rt, bucket.len(), *len, (row, "len")),
-        Own(slot) => {
-            let there = bucket.data_block().val(*slot).is_some();
-            check_same(rt, there, true, (row, "own"));
+        Expect(wanted) => check_expected(rt, bucket, counted, row, wanted),
+    }
+    Ok(())
+}
+
+// Writes a clone over the value of each of these keys.
+fn write_clones<const TYPE: u8>(
+    rt: &impl Abort,
+    bucket: &mut Counted<TYPE>,
+    counted: &Rc<i32>,
+    row: (&str, usize),
+    keys: &[u64],
+) -> Result<(), Fail> {
+    for key in keys {
+        let old = write_key(bucket, *key, 0, counted.clone()?);
+        check_same(rt, old.is_some(), true, (row, "write", *key));
+    }
+    Ok(())
+}
+
+// Removes the pairs of all keys below a number, from the first key on, or backwards.
+fn remove_all<const TYPE: u8>(
+    rt: &impl Abort,
+    bucket: &mut Counted<TYPE>,
+    counted: &Rc<i32>,
+    row: (&str, usize),
+    keys: u64,
+    backwards: bool,
+) {
+    for gone in 0..keys {
+        let left = keys.wrapping_sub(gone);
+        let key = if backwards {
+            left.wrapping_sub(1)
+        } else {
+            gone
+        };
+        let taken = remove_at(bucket, key, 0).is_some();
+        let found = (taken, Rc::strong_count(counted));
+        check_same(rt, found, (true, left as usize), (row, "remove all", key));
+    }
+}
+
+// Compares what is seen of a bucket.
+fn check_expected<const TYPE: u8>(
+    rt: &impl Abort,
+    bucket: &Counted<TYPE>,
+    counted: &Rc<i32>,
+    row: (&str, usize),
+    wanted: &Expect,
+) {
+    match *wanted {
+        Values(values) => check_same(rt, Rc::strong_count(counted), values, (row, "values")),
+        Len(len) => check_same(rt, bucket.len(), len, (row, "len")),
+        OwnSlot(slot) => {
+            let there = bucket.data_block().val(slot).is_some();
+            check_same(rt, there, true, (row, "own slot"));
         }
-        _ => check_same(rt, true, false, (row, "no act")),
     }
 }
 

@@ -1,7 +1,7 @@
 //! Calls on an index's table that leave tombstones: each has the epoch of its call.
 use crate::by_lock::{Table, put_at};
 use crate::checks::check_same;
-use crate::steps::{Answers, Kept, Spot, steps};
+use crate::steps::{Answers, Kept, Spot};
 use Step::*;
 use bucket_slots::bucket::INDEX;
 use bucket_table::hash_table::HashTable;
@@ -9,6 +9,7 @@ use bucket_table::script::{Call, Reply, ScriptHash, run};
 use std::alloc::Global;
 use std::process::Abort;
 use std::test::Fail;
+use test_helpers::steps;
 
 type Index = Table<(), INDEX>;
 
@@ -18,19 +19,18 @@ type Story = (&'static str, &'static [Step]);
 
 /// A setting for the steps that follow, or a call with the answer that is wanted.
 enum Step {
-    /// The epoch from here on, and which tombstones are kept. At first it is 0, and all are.
-    Now(u8, Kept),
-    /// A sweep removes the pairs of keys below a number, and so many.
-    Sweeps(u64, usize),
-    /// `retain` is called with each live pair, so many, and those of keys below a number are
-    /// removed.
-    Retains(u64, usize),
-    /// A script clears the table of so many pairs.
-    Clears(usize),
-    /// A script removes a key, which is its own value.
-    Removes(u64),
-    /// A new key is put, and stands there.
-    Puts(u64, Spot),
+    /// Set the epoch from here on, and which tombstones are kept. At first it is 0, and all are.
+    SetEpoch(u8, Kept),
+    /// Remove the pairs of keys below a number by a sweep: so many.
+    Sweep(u64, usize),
+    /// Remove the pairs of keys below a number by `retain`, which asks for each live pair: so many.
+    Retain(u64, usize),
+    /// Clear the table of so many pairs by a script.
+    Clear(usize),
+    /// Remove a key, which is its own value, by a script.
+    Remove(u64),
+    /// Insert a new key, which is in this place then.
+    Insert(u64, Spot),
 }
 
 // Only the tombstone of epoch 5 is kept.
@@ -39,24 +39,24 @@ const FIVE: Kept = Kept::Rest(255, 5);
 const STORIES: &[Story] = steps! {
     // The last two steps drop only the tombstone of epoch 5.
     ("a sweep marks with its epoch", steps! {
-        Now(5, Kept::All), Sweeps(4, 4), Now(0, FIVE), Puts(32, (1, 0)), Now(0, Kept::But(5)),
-        Puts(33, (0, 0)) }),
+        SetEpoch(5, Kept::All), Sweep(4, 4), SetEpoch(0, FIVE), Insert(32, (1, 0)),
+        SetEpoch(0, Kept::But(5)), Insert(33, (0, 0)) }),
     ("marks of another epoch than that of a sweep go", steps! {
-        Now(7, Kept::All), Sweeps(4, 4), Now(0, FIVE), Puts(32, (0, 0)) }),
+        SetEpoch(7, Kept::All), Sweep(4, 4), SetEpoch(0, FIVE), Insert(32, (0, 0)) }),
     ("marked pairs are asked for no more", steps! {
-        Now(5, Kept::All), Retains(4, 32), Retains(4, 28), Now(0, FIVE), Puts(32, (1, 0)),
-        Now(0, Kept::But(5)), Puts(33, (0, 0)) }),
+        SetEpoch(5, Kept::All), Retain(4, 32), Retain(4, 28), SetEpoch(0, FIVE), Insert(32, (1, 0)),
+        SetEpoch(0, Kept::But(5)), Insert(33, (0, 0)) }),
     ("a clearing marks with its epoch", steps! {
-        Now(5, Kept::All), Clears(32), Now(0, FIVE), Puts(32, (1, 0)),
-        Now(0, Kept::But(5)), Puts(33, (0, 0)) }),
+        SetEpoch(5, Kept::All), Clear(32), SetEpoch(0, FIVE), Insert(32, (1, 0)),
+        SetEpoch(0, Kept::But(5)), Insert(33, (0, 0)) }),
     ("marks of another epoch than that of a clearing go", steps! {
-        Now(7, Kept::All), Clears(32), Now(0, FIVE), Puts(32, (0, 0)) }),
+        SetEpoch(7, Kept::All), Clear(32), SetEpoch(0, FIVE), Insert(32, (0, 0)) }),
     ("a removal marks with its epoch", steps! {
-        Now(5, Kept::All), Removes(0), Removes(9), Now(0, FIVE), Puts(32, (1, 0)),
-        Now(0, Kept::But(5)), Puts(33, (0, 0)), Puts(34, (0, 9)) }),
+        SetEpoch(5, Kept::All), Remove(0), Remove(9), SetEpoch(0, FIVE), Insert(32, (1, 0)),
+        SetEpoch(0, Kept::But(5)), Insert(33, (0, 0)), Insert(34, (0, 9)) }),
     ("marks of another epoch than that of a removal go", steps! {
-        Now(7, Kept::All), Removes(0), Now(5, Kept::All), Removes(9), Now(0, FIVE),
-        Puts(32, (0, 0)), Puts(33, (1, 0)) })
+        SetEpoch(7, Kept::All), Remove(0), SetEpoch(5, Kept::All), Remove(9), SetEpoch(0, FIVE),
+        Insert(32, (0, 0)), Insert(33, (1, 0)) })
 };
 
 #[test]
@@ -99,25 +99,25 @@ fn play(
     let mut now = Answers::new(0, &Kept::All);
     for (row, step) in steps.iter().enumerate() {
         match step {
-            Now(epoch, kept) => now = Answers::new(*epoch, kept),
-            Sweeps(from, taken) => {
+            SetEpoch(epoch, kept) => now = Answers::new(*epoch, kept),
+            Sweep(from, taken) => {
                 let keep = |key: &u64, _value: &u64| *key >= *from;
                 check_same(rt, table.sweep(&keep, &now)?, *taken, (story, row));
             }
-            Retains(from, asked) => {
+            Retain(from, asked) => {
                 check_same(rt, retain_from(table, *from, &now), *asked, (story, row));
             }
-            Clears(pairs) => {
+            Clear(pairs) => {
                 let reply = reply_to(alloc, table, Call::Clear, &now)?;
                 let cleared = matches!(reply, Some(Reply::Cleared(taken)) if taken == *pairs);
                 check_same(rt, cleared, true, (story, row));
             }
-            Removes(key) => {
+            Remove(key) => {
                 let reply = reply_to(alloc, table, Call::Remove(*key), &now)?;
                 let removed = matches!(reply, Some(Reply::Pair(own, _)) if own == *key);
                 check_same(rt, removed, true, (story, row));
             }
-            Puts(key, spot) => {
+            Insert(key, spot) => {
                 check_same(
                     rt,
                     put_at(table, *key, &now),

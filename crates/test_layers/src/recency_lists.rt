@@ -2,11 +2,11 @@
 ghost use Rattle.std.specs.Prelude.{◌<◌, ℕ, List};
 
 use crate::checks::check_same;
-use crate::steps::steps;
 use Act::*;
 use bucket_slots::lru::{DoublyLinkedList, LruList};
 use std::marker::Model;
 use std::process::Abort;
+use test_helpers::steps;
 
 /// A list with its tail, as its owner keeps them.
 #[derive(Drop)]

@@ -4,7 +4,8 @@ ghost use Rattle.std.specs.Int.{IsPowerOfTwo};
 ghost use Rattle.bucket_slots.specs.Sizing.{IsPowerIn};
 
 use crate::checks::check_same;
-use crate::steps::steps;
+use Made::*;
+use Rule::*;
 use Size::*;
 use bucket_slots::bucket::{AllocError, MAP};
 use bucket_slots::bucket_array::{
@@ -15,6 +16,7 @@ use bucket_table::hash_table::{
 };
 use std::alloc::Global;
 use std::process::Abort;
+use test_helpers::steps;
 
 type Array = BucketArray<u64, u64, (), MAP>;
 
@@ -26,11 +28,25 @@ const MAX: usize = usize::MAX;
 
 /// A call, with its answer last.
 enum Size {
+    Made(Made),
+    Rule(Rule),
+}
+
+/// A call on an array that is made, or that can't be.
+enum Made {
     /// The slots and the length of an array for a capacity; none if that fails.
     Extent(usize, Option<(usize, usize)>),
     /// The small, the large and the full sample of such an array.
     ArraySamples(usize, (usize, usize, usize)),
-    /// Those of a length.
+    /// The home of a hash in an array for a capacity.
+    Home(usize, u64, usize),
+    /// Whether a hash starts a sampling there: where its low byte is below the large sample.
+    Starts(usize, u64, bool),
+}
+
+/// A call that takes no memory.
+enum Rule {
+    /// The small, the large and the full sample of a length.
     Samples(usize, (usize, usize, usize)),
     /// Whether a capacity's slots are too full for a number of entries.
     Full(usize, usize, bool),
@@ -44,65 +60,69 @@ enum Size {
     For(usize, usize),
     /// The number of entries that a hint promises, which is its upper bound.
     Hint(usize, Option<usize>, usize),
-    /// The home of a hash in an array for a capacity.
-    Home(usize, u64, usize),
-    /// Whether a hash starts a sampling there: where its low byte is below the large sample.
-    Starts(usize, u64, bool),
     /// Of an array's length, another's, and an index in the first, its range in the second.
-    Range(usize, usize, usize, (usize, usize)),
+    IndexRange(usize, usize, usize, (usize, usize)),
 }
 
 const SIZES: &[Size] = steps! {
-    Extent(0, Some((64, 2))), Extent(1, Some((64, 2))), Extent(64, Some((64, 2))),
-    Extent(65, Some((128, 4))), Extent(128, Some((128, 4))), Extent(129, Some((256, 8))),
-    Extent(1000, Some((1024, 32))), Extent(4096, Some((4096, 128))),
+    Made(Extent(0, Some((64, 2)))), Made(Extent(1, Some((64, 2)))), Made(Extent(64, Some((64, 2)))),
+    Made(Extent(65, Some((128, 4)))), Made(Extent(128, Some((128, 4)))),
+    Made(Extent(129, Some((256, 8)))), Made(Extent(1000, Some((1024, 32)))),
+    Made(Extent(4096, Some((4096, 128)))),
     // These pass the address space.
-    Extent(MAX, None), Extent(1 << 63, None), Extent(1 << 62, None),
+    Made(Extent(MAX, None)), Made(Extent(1 << 63, None)), Made(Extent(1 << 62, None)),
 
-    ArraySamples(64, (1, 1, 2)), ArraySamples(512, (4, 4, 16)),
-    ArraySamples(32768, (8, 16, 128)),
-    Samples(2, (1, 1, 2)), Samples(4, (2, 2, 4)), Samples(8, (4, 4, 8)), Samples(16, (4, 4, 16)),
-    Samples(128, (4, 8, 128)), Samples(1024, (8, 16, 128)), Samples(65536, (8, 16, 128)),
-    Samples(1048576, (8, 32, 128)), Samples(1 << 58, (8, 64, 128)),
+    Made(ArraySamples(64, (1, 1, 2))), Made(ArraySamples(512, (4, 4, 16))),
+    Made(ArraySamples(32768, (8, 16, 128))), Rule(Samples(2, (1, 1, 2))),
+    Rule(Samples(4, (2, 2, 4))), Rule(Samples(8, (4, 4, 8))), Rule(Samples(16, (4, 4, 16))),
+    Rule(Samples(128, (4, 8, 128))), Rule(Samples(1024, (8, 16, 128))),
+    Rule(Samples(65536, (8, 16, 128))), Rule(Samples(1048576, (8, 32, 128))),
+    Rule(Samples(1 << 58, (8, 64, 128))),
 
     // More than thirteen of sixteen are too many, and fewer than one of eight are too few.
-    Full(64, 52, false), Full(64, 53, true), Full(0, 0, false), Full(0, 1, true),
-    Full(15, 1, true), Full(MAX, MAX, true),
-    Empty(64, 8, false), Empty(64, 7, true), Empty(0, 0, false), Empty(7, 0, false),
-    Empty(8, 0, true), Empty(MAX, MAX, false),
+    Rule(Full(64, 52, false)), Rule(Full(64, 53, true)), Rule(Full(0, 0, false)),
+    Rule(Full(0, 1, true)), Rule(Full(15, 1, true)), Rule(Full(MAX, MAX, true)),
+    Rule(Empty(64, 8, false)), Rule(Empty(64, 7, true)), Rule(Empty(0, 0, false)),
+    Rule(Empty(7, 0, false)), Rule(Empty(8, 0, true)), Rule(Empty(MAX, MAX, false)),
 
-    Best(64, 53, 0, M, 128), Best(1024, 10, 0, M, 64), Best(64, 0, 1000, M, 1024),
-    Best(64, 0, 0, 64, 64), Best(128, 200, 0, 128, 128), Best(64, 33, 100, M, 128),
-    Best(64, 200, 0, 256, 256), Best(64, 52, 0, M, 64), Best(64, 8, 0, M, 64),
-    Best(1024, 100, 300, M, 512), Best(64, MAX, 0, M, M), Best(M, MAX, M, M, M),
-    Best(M, 0, 0, M, 64), Least(64),
+    Rule(Best(64, 53, 0, M, 128)), Rule(Best(1024, 10, 0, M, 64)), Rule(Best(64, 0, 1000, M, 1024)),
+    Rule(Best(64, 0, 0, 64, 64)), Rule(Best(128, 200, 0, 128, 128)),
+    Rule(Best(64, 33, 100, M, 128)), Rule(Best(64, 200, 0, 256, 256)), Rule(Best(64, 52, 0, M, 64)),
+    Rule(Best(64, 8, 0, M, 64)), Rule(Best(1024, 100, 300, M, 512)), Rule(Best(64, MAX, 0, M, M)),
+    Rule(Best(M, MAX, M, M, M)), Rule(Best(M, 0, 0, M, 64)), Rule(Least(64)),
 
-    For(0, 1), For(3, 1), For(4, 8), For(64, 128), For(100, 128), For(1 << 62, 1 << 62),
-    For(MAX, 1 << 62),
-    Hint(3, None, 3), Hint(3, Some(9), 9), Hint(MAX, Some(0), 0),
+    Rule(For(0, 1)), Rule(For(3, 1)), Rule(For(4, 8)), Rule(For(64, 128)), Rule(For(100, 128)),
+    Rule(For(1 << 62, 1 << 62)), Rule(For(MAX, 1 << 62)), Rule(Hint(3, None, 3)),
+    Rule(Hint(3, Some(9), 9)), Rule(Hint(MAX, Some(0), 0)),
 
     // Two buckets: the upper half of the hashes is at home in the second. And eight buckets.
-    Home(64, 0, 0), Home(64, (1 << 63) - 1, 0), Home(64, 1 << 63, 1), Home(64, u64::MAX, 1),
-    Extent(256, Some((256, 8))), Starts(256, 0, true), Starts(256, 4, true),
-    Starts(256, 6, false), Starts(256, 3, false), Starts(256, 252, true), Starts(256, 255, false),
-    Starts(256, 256 + 2, false), Starts(256, 1 << 63, true),
+    Made(Home(64, 0, 0)), Made(Home(64, (1 << 63) - 1, 0)), Made(Home(64, 1 << 63, 1)),
+    Made(Home(64, u64::MAX, 1)), Made(Extent(256, Some((256, 8)))), Made(Starts(256, 0, true)),
+    Made(Starts(256, 4, true)), Made(Starts(256, 6, false)), Made(Starts(256, 3, false)),
+    Made(Starts(256, 252, true)), Made(Starts(256, 255, false)), Made(Starts(256, 256 + 2, false)),
+    Made(Starts(256, 1 << 63, true)),
 
-    Range(2, 8, 1, (4, 8)), Range(8, 2, 5, (1, 2)), Range(4, 4, 3, (3, 4)),
-    Range(1, 8, 0, (0, 8)), Range(8, 1, 7, (0, 1)), Range(2, 8, 0, (0, 4)),
-    Range(1, 1 << 63, 0, (0, 1 << 63)), Range(1 << 63, 1, (1 << 63) - 1, (0, 1))
+    Rule(IndexRange(2, 8, 1, (4, 8))), Rule(IndexRange(8, 2, 5, (1, 2))),
+    Rule(IndexRange(4, 4, 3, (3, 4))), Rule(IndexRange(1, 8, 0, (0, 8))),
+    Rule(IndexRange(8, 1, 7, (0, 1))), Rule(IndexRange(2, 8, 0, (0, 4))),
+    Rule(IndexRange(1, 1 << 63, 0, (0, 1 << 63))),
+    Rule(IndexRange(1 << 63, 1, (1 << 63) - 1, (0, 1)))
 };
 
 #[test]
 fn sizes_are_those_of_the_rules(rt: HostRuntime) -> Result<(), AllocError> {
     for (row, size) in SIZES.iter().enumerate() {
-        check_size(&rt, rt.alloc(), row, size)?;
+        match size {
+            Made(call) => check_made(&rt, rt.alloc(), row, call)?,
+            Rule(call) => check_rule(&rt, row, call),
+        }
     }
     Ok(())
 }
 
-// Makes a call, and compares its answer.
-fn check_size(rt: &impl Abort, alloc: Global, row: usize, size: &Size) -> Result<(), AllocError> {
-    match *size {
+// Makes a call on an array that is made, and compares its answer.
+fn check_made(rt: &impl Abort, alloc: Global, row: usize, call: &Made) -> Result<(), AllocError> {
+    match *call {
         Extent(capacity, extent) => {
             let found = match Array::alloc(alloc, capacity) {
                 Ok(array) => Some((array.num_slots(), array.len())),
@@ -129,14 +149,13 @@ fn check_size(rt: &impl Abort, alloc: Global, row: usize, size: &Size) -> Result
                 (row, "starts", hash),
             );
         }
-        _ => check_reckoned(rt, row, size),
     }
     Ok(())
 }
 
 // Makes a call that takes no memory, and compares its answer.
-fn check_reckoned(rt: &impl Abort, row: usize, size: &Size) {
-    match *size {
+fn check_rule(rt: &impl Abort, row: usize, call: &Rule) {
+    match *call {
         Samples(len, samples) => {
             assert!(rt; len >= 2 && len <= 1 << 58);
             let power = power_up_to(rt, len, 1 << 58);
@@ -168,7 +187,7 @@ fn check_reckoned(rt: &impl Abort, row: usize, size: &Size) {
             let found = num_entries_from_hint((low, high));
             check_same(rt, found, entries, (row, "hint", low));
         }
-        Range(from, to, index, range) => {
+        IndexRange(from, to, index, range) => {
             let len = power_of_two(rt, from);
             let other_len = power_of_two(rt, to);
             assert!(rt; index < len);
@@ -176,7 +195,6 @@ fn check_reckoned(rt: &impl Abort, row: usize, size: &Size) {
             check_same(rt, found, range, (row, "range", index));
         }
         Least(least) => check_same(rt, Array::minimum_capacity(), least, (row, "least", 0usize)),
-        _ => check_same(rt, true, false, (row, "no call", 0usize)),
     }
 }
 

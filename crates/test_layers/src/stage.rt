@@ -4,12 +4,16 @@ use crate::by_key::{
     insert_oldest, kill_empty, mark_key, move_key, remove_at, touch_key, write_key,
 };
 use crate::checks::check_same;
+use crate::steps::Expect::*;
+use crate::steps::Set::*;
 use crate::steps::Step::*;
-use crate::steps::{Answers, Kept, Spot, Step, Story};
+use crate::steps::Walk::*;
+use crate::steps::{Answers, Expect, Kept, Set, Spot, Step, Story, Walk};
 use bucket_slots::bucket::{Bucket, CACHE, EntryPtr, INDEX};
 use bucket_slots::lru::LruList;
 use std::alloc::Global;
 use std::mem;
+use std::ops::Range;
 use std::process::Abort;
 use std::test::Fail;
 
@@ -46,7 +50,7 @@ impl<L: LruList, const TYPE: u8> Stage<L, TYPE> {
         rt: &impl Abort,
         (story, keys, steps): &Story,
     ) -> Result<(), Fail> {
-        self.step(rt, (story, 0), &Fill(0, *keys))?;
+        self.step(rt, (story, 0), &InsertRange(0..*keys))?;
         self.play(rt, story, steps)
     }
 
@@ -76,21 +80,47 @@ impl<L: LruList, const TYPE: u8> Stage<L, TYPE> {
         step: &Step,
     ) -> Result<(), Fail> {
         match step {
-            Fill(from, to) => self.fill(rt, row, (*from, *to), false)?,
-            Use(from, to) => self.fill(rt, row, (*from, *to), true)?,
-            Put(key, spot) => check_same(rt, self.put(*key)?, *spot, (row, "put", *key)),
-            PutOldest(key, spot) => {
-                let found = self.put_oldest(*key)?;
-                check_same(rt, found, Some(*spot), (row, "put oldest", *key));
+            Set(setting) => self.set(setting),
+            Swap => mem::swap(&mut self.bucket, &mut self.other),
+            InsertRange(keys) => self.insert_range(rt, row, keys, false)?,
+            InsertAndTouch(keys) => self.insert_range(rt, row, keys, true)?,
+            Insert(key, spot) => check_same(rt, self.insert(*key)?, *spot, (row, "insert", *key)),
+            InsertOldest(key, spot) => {
+                let found = self.insert_oldest(*key)?;
+                check_same(rt, found, Some(*spot), (row, "insert oldest", *key));
             }
             Move(key, spot) => {
                 let found = self.bring(rt, row, *key)?;
                 check_same(rt, found, *spot, (row, "move", *key));
             }
             Reserve(slots) => self.bucket.reserve_slots(*slots)?,
-            _ => self.change(rt, row, step),
+            RemoveRange(keys) => self.remove_range(rt, row, keys),
+            Remove(key, spot) => {
+                check_same(rt, self.remove(rt, row, *key), *spot, (row, "remove", *key));
+            }
+            Write(key, value, earlier) => {
+                check_same(rt, self.write(*key, *value), *earlier, (row, "write", *key));
+            }
+            Touch(key, there) => check_same(rt, self.touch(*key), *there, (row, "touch", *key)),
+            Evict(key) => self.check_evicted(rt, row, *key),
+            TakeOrder(slots) => self.take_order(rt, row, slots),
+            Mark(keys) => self.mark_keys(rt, row, keys),
+            MarkRange(keys, by) => self.mark_range(rt, row, keys, *by),
+            ClearTombstones(left) => check_same(rt, self.clear(), Some(*left), (row, "clear")),
+            Kill(kills) => check_same(rt, kill_empty(&mut self.bucket), *kills, (row, "kill")),
+            Walk(walk) => self.walk(rt, row, walk),
+            Expect(wanted) => self.check_expected(rt, row, wanted),
         }
         Ok(())
+    }
+
+    // Changes a setting.
+    fn set(&mut self, setting: &Set) {
+        match setting {
+            Hashes(first, mask) => self.hash = (*first, *mask),
+            Values(times, plus) => self.values = (*times, *plus),
+            Epoch(epoch, kept) => self.now = Answers::new(*epoch, kept),
+        }
     }
 
     fn hash_of(&self, key: u64) -> u64 {
@@ -101,7 +131,7 @@ impl<L: LruList, const TYPE: u8> Stage<L, TYPE> {
         self.values.0.wrapping_mul(key).wrapping_add(self.values.1)
     }
 
-    fn put(&mut self, key: u64) -> Result<Spot, Fail> {
+    fn insert(&mut self, key: u64) -> Result<Spot, Fail> {
         let pair = (key, self.value_of(key));
         let hash = self.hash_of(key);
         let at = self.bucket.insert(hash, pair, &self.now)?;
@@ -109,7 +139,7 @@ impl<L: LruList, const TYPE: u8> Stage<L, TYPE> {
     }
 
     // Inserts a key as the oldest of a cache.
-    fn put_oldest(&mut self, key: u64) -> Result<Option<Spot>, Fail> {
+    fn insert_oldest(&mut self, key: u64) -> Result<Option<Spot>, Fail> {
         if TYPE != CACHE {
             return Ok(None);
         }
@@ -120,20 +150,20 @@ impl<L: LruList, const TYPE: u8> Stage<L, TYPE> {
     }
 
     // Inserts keys, and touches them where that is asked.
-    fn fill(
+    fn insert_range(
         &mut self,
         rt: &impl Abort,
         row: (&str, usize),
-        (from, to): (u64, u64),
+        keys: &Range<u64>,
         touches: bool,
     ) -> Result<(), Fail> {
-        for key in from..to {
+        for key in keys.start..keys.end {
             let len = self.bucket.len().wrapping_add(1);
-            let (_, pos) = self.put(key)?;
+            let (_, pos) = self.insert(key)?;
             let hash = self.hash_of(key);
             let touched = !touches || touch_key(&mut self.bucket, key, hash);
             let found = (pos < 32, self.bucket.len(), touched);
-            check_same(rt, found, (true, len, true), (row, "fill", key));
+            check_same(rt, found, (true, len, true), (row, "insert range", key));
         }
         Ok(())
     }
@@ -154,64 +184,43 @@ impl<L: LruList, const TYPE: u8> Stage<L, TYPE> {
         Ok(Some(to))
     }
 
-    /// Takes a step that asks for no memory, and compares what it finds.
-    pub(crate) fn change(&mut self, rt: &impl Abort, row: (&str, usize), step: &Step) {
-        match step {
-            Under(first, mask) => self.hash = (*first, *mask),
-            Values(times, plus) => self.values = (*times, *plus),
-            Now(epoch, kept) => self.now = Answers::new(*epoch, kept),
-            Swap => mem::swap(&mut self.bucket, &mut self.other),
-            Take(key, spot) => check_same(rt, self.take(rt, row, *key), *spot, (row, "take", *key)),
-            Drain(from, to) => {
-                for key in *from..*to {
-                    let goes = self.take(rt, row, key).is_some();
-                    check_same(rt, goes, true, (row, "drain", key));
-                }
-            }
-            Write(key, value, earlier) => {
-                let hash = self.hash_of(*key);
-                let found = write_key(&mut self.bucket, *key, hash, *value);
-                check_same(rt, found, *earlier, (row, "write", *key));
-            }
-            Touch(key, there) => {
-                let hash = self.hash_of(*key);
-                let found = touch_key(&mut self.bucket, *key, hash);
-                check_same(rt, found, *there, (row, "touch", *key));
-            }
-            Evict(key) => {
-                let pair = match key {
-                    Some(key) => Some((*key, self.value_of(*key))),
-                    None => None,
-                };
-                check_same(rt, self.evict(), Some(pair), (row, "evict"));
-            }
-            TakeOrder(slots) => self.take_order(rt, row, slots),
-            Marks(keys) => {
-                for key in *keys {
-                    let marked = (self.mark(*key), self.mark(*key));
-                    check_same(rt, marked, (true, false), (row, "mark", *key));
-                }
-            }
-            MarkUp(from, to, by) => {
-                for key in *from..*to {
-                    check_same(rt, self.mark(key), true, (row, "mark", key));
-                    self.now.epoch = self.now.epoch.wrapping_add(*by);
-                }
-            }
-            Clear(left) => check_same(rt, self.clear(), Some(*left), (row, "clear")),
-            Kill(kills) => check_same(rt, kill_empty(&mut self.bucket), *kills, (row, "kill")),
-            _ => self.walk(rt, row, step),
+    // Removes keys, which are present with their values.
+    fn remove_range(&mut self, rt: &impl Abort, row: (&str, usize), keys: &Range<u64>) {
+        for key in keys.start..keys.end {
+            let goes = self.remove(rt, row, key).is_some();
+            check_same(rt, goes, true, (row, "remove range", key));
         }
     }
 
     // Removes the pair of a key, and returns where the removal leaves the walk's pointer.
-    fn take(&mut self, rt: &impl Abort, row: (&str, usize), key: u64) -> Option<Spot> {
+    fn remove(&mut self, rt: &impl Abort, row: (&str, usize), key: u64) -> Option<Spot> {
         let hash = self.hash_of(key);
         let (pair, at) = remove_at(&mut self.bucket, key, hash)?;
         check_same(rt, pair, (key, self.value_of(key)), (row, "remove", key));
         let spot = (at.block(), at.pos());
         self.at = at;
         Some(spot)
+    }
+
+    // Writes the value of a key, and returns the earlier one.
+    fn write(&mut self, key: u64, value: u64) -> Option<u64> {
+        let hash = self.hash_of(key);
+        write_key(&mut self.bucket, key, hash, value)
+    }
+
+    // Touches a key, and returns whether it is present.
+    fn touch(&mut self, key: u64) -> bool {
+        let hash = self.hash_of(key);
+        touch_key(&mut self.bucket, key, hash)
+    }
+
+    // An eviction takes the pair of this key out, or none.
+    fn check_evicted(&mut self, rt: &impl Abort, row: (&str, usize), key: Option<u64>) {
+        let pair = match key {
+            Some(key) => Some((key, self.value_of(key))),
+            None => None,
+        };
+        check_same(rt, self.evict(), Some(pair), (row, "evict"));
     }
 
     // The pair that an eviction takes out of a cache, if any.
@@ -237,6 +246,22 @@ impl<L: LruList, const TYPE: u8> Stage<L, TYPE> {
         mark_key(&mut self.bucket, key, hash, &self.now)
     }
 
+    // Marks keys, which are present once.
+    fn mark_keys(&mut self, rt: &impl Abort, row: (&str, usize), keys: &[u64]) {
+        for key in keys {
+            let marked = (self.mark(*key), self.mark(*key));
+            check_same(rt, marked, (true, false), (row, "mark", *key));
+        }
+    }
+
+    // Marks keys, and raises the epoch after each.
+    fn mark_range(&mut self, rt: &impl Abort, row: (&str, usize), keys: &Range<u64>, by: u8) {
+        for key in keys.start..keys.end {
+            check_same(rt, self.mark(key), true, (row, "mark range", key));
+            self.now.epoch = self.now.epoch.wrapping_add(by);
+        }
+    }
+
     // What a clearing of an index returns.
     fn clear(&mut self) -> Option<u32> {
         if TYPE != INDEX {
@@ -246,25 +271,24 @@ impl<L: LruList, const TYPE: u8> Stage<L, TYPE> {
     }
 
     // Takes a step of a walk.
-    fn walk(&mut self, rt: &impl Abort, row: (&str, usize), step: &Step) {
-        match step {
+    fn walk(&mut self, rt: &impl Abort, row: (&str, usize), walk: &Walk) {
+        match walk {
             Next(key, spot) => {
                 let next = self.next();
                 let found = (next, self.at.is_valid(), self.at.block(), self.at.pos());
                 let wanted = (*key, key.is_some(), spot.0, spot.1);
                 check_same(rt, found, wanted, (row, "next"));
             }
-            Walk(keys) => {
+            Keys(keys) => {
                 for key in *keys {
                     check_same(rt, self.next(), Some(*key), (row, "walk", *key));
                 }
             }
-            WalkUp(from, to) => {
-                for key in *from..*to {
+            KeyRange(keys) => {
+                for key in keys.start..keys.end {
                     check_same(rt, self.next(), Some(key), (row, "walk", key));
                 }
             }
-            _ => self.see(rt, row, step),
         }
     }
 
@@ -275,52 +299,56 @@ impl<L: LruList, const TYPE: u8> Stage<L, TYPE> {
         Some(*self.at.key(&self.bucket))
     }
 
-    // Takes a step that only looks.
-    fn see(&self, rt: &impl Abort, row: (&str, usize), step: &Step) {
-        match step {
-            Find(key, spot) => check_same(rt, self.find(rt, row, *key), *spot, (row, "find", *key)),
-            Holds(from, to) => {
-                for key in *from..*to {
+    // Compares what is seen of the bucket.
+    fn check_expected(&self, rt: &impl Abort, row: (&str, usize), wanted: &Expect) {
+        match wanted {
+            Place(key, spot) => {
+                check_same(rt, self.find(rt, row, *key), *spot, (row, "place", *key));
+            }
+            Present(keys) => {
+                for key in keys.start..keys.end {
                     let there = self.find(rt, row, key).is_some();
-                    check_same(rt, there, true, (row, "holds", key));
+                    check_same(rt, there, true, (row, "present", key));
                 }
             }
-            Lacks(from, to) => {
-                for key in *from..*to {
-                    check_same(rt, self.find(rt, row, key), None, (row, "lacks", key));
+            Absent(keys) => {
+                for key in keys.start..keys.end {
+                    check_same(rt, self.find(rt, row, key), None, (row, "absent", key));
                 }
             }
-            Each(keys) => {
-                let mut came: usize = 0;
-                let mut in_order = true;
-                let mut meet = |key: &u64, _value: &u64| {
-                    in_order = in_order && keys.get(came) == Some(key);
-                    came = came.saturating_add(1);
-                };
-                self.bucket.for_each(&mut meet);
-                check_same(rt, (came, in_order), (keys.len(), true), (row, "each"));
-            }
-            InOwn(from, to) => {
-                for key in *from..*to {
+            InOwnSlots(keys) => {
+                for key in keys.start..keys.end {
                     let own = Some((0, key as usize));
-                    check_same(rt, self.find(rt, row, key), own, (row, "in own", key));
+                    check_same(rt, self.find(rt, row, key), own, (row, "in own slots", key));
                 }
             }
-            Own(slot, key) => self.own(rt, row, *slot, *key),
-            Free(from, to) => {
-                for slot in *from..*to {
+            OwnSlot(slot, key) => self.own(rt, row, *slot, *key),
+            FreeSlots(slots) => {
+                for slot in slots.start..slots.end {
                     self.own(rt, row, slot, None);
                 }
             }
-            Left(spot) => check_same(rt, self.left, *spot, (row, "left")),
+            MovedFrom(spot) => check_same(rt, self.left, *spot, (row, "moved from")),
+            Each(keys) => self.check_each(rt, row, keys),
             Len(len) => check_same(rt, self.bucket.len(), *len, (row, "len")),
             Lens(len, other) => {
                 let found = (self.bucket.len(), self.other.len());
                 check_same(rt, found, (*len, *other), (row, "lens"));
             }
             Killed(killed) => check_same(rt, self.bucket.is_killed(), *killed, (row, "killed")),
-            _ => check_same(rt, true, false, (row, "no step")),
         }
+    }
+
+    // The keys that `for_each` visits are these, in this order.
+    fn check_each(&self, rt: &impl Abort, row: (&str, usize), keys: &[u64]) {
+        let mut came: usize = 0;
+        let mut in_order = true;
+        let mut meet = |key: &u64, _value: &u64| {
+            in_order = in_order && keys.get(came) == Some(key);
+            came = came.saturating_add(1);
+        };
+        self.bucket.for_each(&mut meet);
+        check_same(rt, (came, in_order), (keys.len(), true), (row, "each"));
     }
 
     // Where the pointer to a key stands, if the searches find it with its value.

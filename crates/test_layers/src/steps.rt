@@ -1,5 +1,6 @@
 //! Steps on a bucket: calls with their answers. A story is a list of steps, and a stage plays it.
 use bucket_slots::bucket::Generation;
+use std::ops::Range;
 
 /// A place: a block's number and a position in it.
 pub(crate) type Spot = (usize, usize);
@@ -14,12 +15,6 @@ macro_rules! stories {
     };
 }
 
-/// Steps of any type, several on a line.
-macro_rules! steps {
-    ($($step:expr),+) => { &[$($step),+] };
-}
-
-pub(crate) use steps;
 pub(crate) use stories;
 
 /// Which tombstones are kept.
@@ -47,74 +42,89 @@ impl Kept {
     }
 }
 
-/// A setting for the steps that follow, or a call with the answer that is wanted. Of two keys the
-/// second is the first that is not meant.
+/// A setting for the steps that follow, a call with the answer that is wanted, or what is seen.
 #[derive(Drop)]
 pub(crate) enum Step {
-    /// A key's hash from here on: a number, plus the bits of the key under a mask. At first 0.
-    Under(u64, u64),
-    /// A key's value from here on: the key so many times, plus a number. At first ten times.
-    Values(u64, u64),
-    /// The epoch from here on, and which tombstones are kept. At first it is 0, and all are.
-    Now(u8, Kept),
-    /// The bucket and the other one change places.
+    Set(Set),
+    /// Swap the bucket and the other one.
     Swap,
-
-    /// Keys are inserted, each adding one pair.
-    Fill(u64, u64),
-    /// Keys are inserted, and each is touched.
-    Use(u64, u64),
-    /// A key is inserted, and is in this place.
-    Put(u64, Spot),
-    /// A key is inserted as the oldest, and is in this place.
-    PutOldest(u64, Spot),
-    /// Keys are removed with their values.
-    Drain(u64, u64),
-    /// A key is removed with its value, and leaves the walk's pointer there; or there is none.
-    Take(u64, Option<Spot>),
-    /// A key's value is written, and was the second.
-    Write(u64, u64, Option<u64>),
-    /// A key is moved from the other bucket, where it is no longer found, and is in this place now.
+    /// Insert keys, each adding one pair.
+    InsertRange(Range<u64>),
+    /// Insert keys, and touch each.
+    InsertAndTouch(Range<u64>),
+    /// Insert a key, which is in this place then.
+    Insert(u64, Spot),
+    /// Insert a key as the oldest. It is in this place then.
+    InsertOldest(u64, Spot),
+    /// Move a key from the other bucket, where it is no longer found. It is in this place now.
     Move(u64, Option<Spot>),
-    /// The pair that was moved last from the other bucket was in that place.
-    Left(Spot),
-    /// The pairs of these keys become tombstones, and aren't found a second time.
-    Marks(&'static [u64]),
-    /// The pairs of keys become tombstones, and the epoch is raised by a number after each.
-    MarkUp(u64, u64, u8),
-    /// A clearing returns these occupied own slots.
-    Clear(u32),
-    /// A key is touched, if it is present.
-    Touch(u64, bool),
-    /// A pair is evicted, which has this key and its value; or none.
-    Evict(Option<u64>),
-    /// These own slots are listed, newest first, and none is then.
-    TakeOrder(&'static [u8]),
-    /// So many slots are free then.
+    /// Reserve so many free slots.
     Reserve(usize),
-    /// The bucket is killed, if it has no pair and isn't killed.
+    /// Remove keys with their values.
+    RemoveRange(Range<u64>),
+    /// Remove a key with its value, which leaves the walk's pointer there; or there is none.
+    Remove(u64, Option<Spot>),
+    /// Write a key's value: this was the earlier one.
+    Write(u64, u64, Option<u64>),
+    /// Touch a key, if it is present.
+    Touch(u64, bool),
+    /// Evict a pair, which has this key and its value; or none.
+    Evict(Option<u64>),
+    /// Take the LRU order: these own slots are listed, newest first, and none is then.
+    TakeOrder(&'static [u8]),
+    /// Mark the pairs of these keys as removed. They aren't found a second time.
+    Mark(&'static [u64]),
+    /// Mark the pairs of keys as removed, and raise the epoch by a number after each.
+    MarkRange(Range<u64>, u8),
+    /// Drop the tombstones that aren't kept: these own slots are occupied then.
+    ClearTombstones(u32),
+    /// Kill the bucket, if it has no pair and isn't killed.
     Kill(bool),
+    Walk(Walk),
+    Expect(Expect),
+}
 
-    /// Both searches find a key with its value, and its pointer stands there; or none finds it.
-    Find(u64, Option<Spot>),
-    /// Keys are found so.
-    Holds(u64, u64),
-    /// Keys aren't found.
-    Lacks(u64, u64),
-    /// Keys are found in the own slots of their numbers.
-    InOwn(u64, u64),
-    /// An own slot has this key, live or a tombstone, with its value, or none.
-    Own(usize, Option<u64>),
-    /// Own slots have none.
-    Free(usize, usize),
-    /// The walk's next key, and where its pointer stands then.
+/// A setting from here on.
+#[derive(Drop)]
+pub(crate) enum Set {
+    /// A key's hash: a number, plus the bits of the key under a mask. At first 0.
+    Hashes(u64, u64),
+    /// A key's value: the key so many times, plus a number. At first ten times.
+    Values(u64, u64),
+    /// The epoch, and which tombstones are kept. At first it is 0, and all are.
+    Epoch(u8, Kept),
+}
+
+/// A walk goes on.
+#[derive(Drop)]
+pub(crate) enum Walk {
+    /// The next key, and where the pointer is then.
     Next(Option<u64>, Spot),
-    /// The walk's next keys.
-    Walk(&'static [u64]),
+    /// The next keys.
+    Keys(&'static [u64]),
+    /// The next keys, one after another.
+    KeyRange(Range<u64>),
+}
+
+/// What is expected of the bucket.
+#[derive(Drop)]
+pub(crate) enum Expect {
+    /// Both searches find a key with its value, and its pointer is there; or none finds it.
+    Place(u64, Option<Spot>),
+    /// Keys are found so.
+    Present(Range<u64>),
+    /// Keys aren't found.
+    Absent(Range<u64>),
+    /// Keys are found in the own slots of their numbers.
+    InOwnSlots(Range<u64>),
+    /// An own slot has this key, live or a tombstone, with its value, or none.
+    OwnSlot(usize, Option<u64>),
+    /// Own slots have none.
+    FreeSlots(Range<usize>),
+    /// The pair that was moved last from the other bucket was in that place.
+    MovedFrom(Spot),
     /// The keys that `for_each` visits, in its order.
     Each(&'static [u64]),
-    /// The walk's next keys, one after another.
-    WalkUp(u64, u64),
     /// How many live pairs there are.
     Len(usize),
     /// How many there are in both buckets.

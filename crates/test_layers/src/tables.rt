@@ -7,12 +7,13 @@ use crate::checks::check_same;
 use crate::cursors::{Stop, follow};
 use crate::steps::Spot;
 use crate::walks::{finish, strip};
-use bucket_slots::bucket::EqProbe;
 use bucket_table::hash_table::{HashTable, MAXIMUM_CAPACITY_LIMIT, ResizeRule, TicketError};
 use bucket_table::script::ScriptHash;
 use std::alloc::Global;
+use std::ops::Range;
 use std::process::Abort;
 use std::test::Fail;
+use test_helpers::At;
 
 /// What happens on a new map, whose greatest capacity is 2^63 slots.
 pub(crate) struct Story {
@@ -25,70 +26,79 @@ pub(crate) struct Story {
     pub(crate) steps: &'static [Step],
 }
 
-/// A call with its result, or what is seen of the table. Of two keys the second is the first that
-/// is not meant.
+/// A call with its result, or what is seen of the table.
 pub(crate) enum Step {
-    /// Keys are put, each as its own value.
-    Puts(u64, u64),
-    /// Keys are removed, each with its own value, and where a bucket is left empty the table may
-    /// shrink.
-    Takes(u64, u64),
-    /// Old buckets are relocated.
-    Works(usize, usize),
-    /// A new key is put in the writer's bucket of this index, and stands there.
-    Lands(u64, usize, Spot),
-    /// A key is removed from its bucket alone, and leaves the pointer there.
-    Leaves(u64, Spot),
-    /// A key stands there.
-    Stands(u64, Spot),
-    /// The writer's bucket of a hash has this index.
-    Locks(u64, usize),
-    /// The same by the other name of the call.
-    Reserves(u64, usize),
-    /// The index of a key's bucket, and how many pairs it has; nothing if there is an old array.
-    Homes(u64, Option<(usize, usize)>),
-    /// How many slots the current array has, and the rehash word.
-    Sees(usize, Option<usize>),
-    /// A key has itself as its value, as a read has it, which moves pairs.
-    Reads(u64),
-    /// The same as a peek has it, which moves nothing.
-    Holds(u64),
-    /// How many pairs a count finds.
-    Counts(usize),
-    /// How many pairs there are, as a length has it, which moves nothing.
-    Lens(usize),
-    /// The keys that `for_each` visits, in its order, each with itself as its value.
-    Each(&'static [u64]),
-    /// The table is cleared.
-    Clears,
-    /// The least capacity is raised.
-    Raises(usize),
-    /// The next unit is handed out under this ticket.
-    Opens(usize),
-    /// A ticket of a unit that is done is ended, and the old array stays.
-    Ends(usize),
-    /// A ticket is none that is open.
-    Lost(usize),
-    /// Whether a look-up finds a key, and with how many keys it is compared.
-    Asks(u64, bool, u64),
-    /// The present array, or the one that is made, has so many buckets.
-    Makes(usize),
-    /// A resize is asked for, and happens or doesn't.
-    Resizes(bool),
-    /// The slots are doubled if the home of a hash is overfull, or aren't.
-    Doubles(u64, bool),
-    /// No ticket is open, and so many units are left and worked.
-    Finishes(usize),
-    /// The pairs of keys from a number on are kept, and so many others are removed.
-    Sweeps(u64, usize),
-    /// A walk removes two keys, which are present, and asks for a shorter array.
-    Strips(u64, u64),
-    /// A cursor visits these pairs from the first one on, and then ends.
-    Follows(&'static [Stop]),
+    /// Insert keys, each as its own value.
+    InsertRange(Range<u64>),
+    /// Remove keys, each with its own value. Where a bucket is left empty the table may shrink.
+    RemoveRange(Range<u64>),
+    /// Read a key, which has itself as its value. A read moves pairs.
+    Read(u64),
+    /// Count so many pairs, which moves pairs.
+    Count(usize),
+    /// Clear the table.
+    Clear,
+    /// Raise the least capacity.
+    RaiseMinimum(usize),
+    /// Keep the pairs of keys from a number on, and remove so many others.
+    Sweep(u64, usize),
+    /// Remove two keys in a walk, which are present, and ask for a shorter array.
+    RemoveInWalk(u64, u64),
+    /// Follow a cursor: it visits these pairs from the first one on, and then ends.
+    FollowCursor(&'static [Stop]),
+    Lock(Lock),
+    Rehash(Rehash),
+    Expect(Expect),
 }
 
-/// A step's place: its story, and its number there.
-pub(crate) type At = (&'static str, usize);
+/// A call that locks a bucket.
+pub(crate) enum Lock {
+    /// Insert a new key in the writer's bucket of this index. It is in this place then.
+    Insert(u64, usize, Spot),
+    /// Remove a key from its bucket alone, which leaves the pointer there.
+    Remove(u64, Spot),
+    /// Find a key in this place.
+    FindPlace(u64, Spot),
+    /// Find the writer's bucket of a hash, which has this index.
+    FindBucket(u64, usize),
+    /// The same by the other name of the call.
+    FindReserved(u64, usize),
+    /// Find the index of a key's bucket, and how many pairs it has; nothing if there is an old
+    /// array.
+    FindHome(u64, Option<(usize, usize)>),
+}
+
+/// A call on the arrays, or on tickets.
+pub(crate) enum Rehash {
+    /// Get the present array, or make one: it has so many buckets.
+    MakeArray(usize),
+    /// Ask for a resize: whether it happens.
+    TryResize(bool),
+    /// Double the slots if the home of a hash is overfull: whether it is.
+    GrowIfOverfull(u64, bool),
+    /// Relocate old buckets.
+    RelocateRange(Range<usize>),
+    /// Issue the ticket of the next unit, which is this one.
+    IssueTicket(usize),
+    /// End a ticket of a unit that is done. The old array stays.
+    EndTicket(usize),
+    /// End a ticket that isn't open, which fails.
+    EndUnknownTicket(usize),
+    /// Finish the rehash, while no ticket is open: so many units are left.
+    Finish(usize),
+}
+
+/// What is expected of the table.
+pub(crate) enum Expect {
+    /// How many slots the current array has, and the rehash word.
+    Slots(usize, Option<usize>),
+    /// A key has itself as its value, as a peek has it, which moves nothing.
+    Key(u64),
+    /// How many pairs there are, as a length has it, which moves nothing.
+    Len(usize),
+    /// The keys that `for_each` visits, in its order, each with itself as its value.
+    Each(&'static [u64]),
+}
 
 /// Plays stories, each on a new table.
 pub(crate) fn tell(rt: &impl Abort, alloc: Global, stories: &[Story]) -> Result<(), Fail> {
@@ -124,104 +134,121 @@ pub(crate) fn play(
 // Takes a step, and compares its result.
 fn take(rt: &impl Abort, table: &mut Map, at: At, step: &Step) -> Result<(), Fail> {
     match step {
-        Step::Puts(from, to) => {
-            for key in *from..*to {
-                let done = table
-                    .insert_pair(key, key, &(), ResizeRule::Sampled)
-                    .is_ok();
-                check_same(rt, done, true, (at, "puts", key));
-            }
+        Step::InsertRange(keys) => insert_range(rt, table, at, keys),
+        Step::RemoveRange(keys) => remove_range(rt, table, at, keys),
+        Step::Read(key) => {
+            let found = table.reader_sync(key, |own: &u64, value: &u64| (*own, *value));
+            check_same(rt, found, Some((*key, *key)), at);
         }
-        Step::Takes(from, to) => {
-            for key in *from..*to {
-                let taken = table.take(&key, ResizeRule::Sampled);
-                check_same(rt, taken, Some((key, key)), (at, "takes", key));
-            }
-        }
-        Step::Works(from, to) => {
-            for index in *from..*to {
-                if !table.has_old_bucket(index) {
-                    return Err("no old bucket".into());
-                }
-                table.relocate_bucket_sync(index)?;
-            }
-        }
-        Step::Makes(len) => check_same(rt, table.get_or_create_array()?.len(), *len, at),
-        Step::Resizes(done) => check_same(rt, table.try_resize()?, *done, at),
-        Step::Doubles(hash, done) => check_same(rt, table.grow_if_overfull(*hash)?, *done, at),
-        Step::Finishes(units) => check_same(rt, finish(table)?, Some(*units), at),
-        Step::Sweeps(from, taken) => {
+        Step::Count(pairs) => check_same(rt, table.num_entries(), *pairs, at),
+        Step::Clear => table.clear(),
+        Step::RaiseMinimum(by) => check_same(rt, table.reserve_capacity(*by), *by, at),
+        Step::Sweep(from, taken) => {
             let keep = |key: &u64, _value: &u64| *key >= *from;
             check_same(rt, table.sweep(&keep, &())?, *taken, at);
         }
-        Step::Strips(first, second) => {
+        Step::RemoveInWalk(first, second) => {
             check_same(rt, strip(table, (*first, *second))?, (true, true), at);
         }
-        Step::Follows(stops) => follow(rt, table, at, stops)?,
-        _ => lock(rt, table, at, step),
+        Step::FollowCursor(stops) => follow(rt, table, at, stops)?,
+        Step::Lock(call) => check_lock(rt, table, at, call),
+        Step::Rehash(call) => check_rehash(rt, table, at, call)?,
+        Step::Expect(wanted) => check_expected(rt, table, at, wanted),
     }
     Ok(())
 }
 
-// Takes a step that locks a bucket, or calls on tickets.
-fn lock(rt: &impl Abort, table: &mut Map, at: At, step: &Step) {
-    match step {
-        Step::Lands(key, index, spot) => {
-            check_same(rt, put_at(table, *key, &()), Some((*index, *spot)), at);
+/// Inserts keys, each as its own value.
+pub(crate) fn insert_range(rt: &impl Abort, table: &mut Map, at: At, keys: &Range<u64>) {
+    for key in keys.start..keys.end {
+        let done = table
+            .insert_pair(key, key, &(), ResizeRule::Sampled)
+            .is_ok();
+        check_same(rt, done, true, (at, "insert range", key));
+    }
+}
+
+// Removes keys, each with its own value.
+fn remove_range(rt: &impl Abort, table: &mut Map, at: At, keys: &Range<u64>) {
+    for key in keys.start..keys.end {
+        let taken = table.take(&key, ResizeRule::Sampled);
+        check_same(rt, taken, Some((key, key)), (at, "remove range", key));
+    }
+}
+
+// Makes a call that locks a bucket, and compares its result.
+fn check_lock(rt: &impl Abort, table: &mut Map, at: At, call: &Lock) {
+    match *call {
+        Lock::Insert(key, index, spot) => {
+            check_same(rt, put_at(table, key, &()), Some((index, spot)), at);
         }
-        Step::Leaves(key, spot) => check_same(rt, take_at(table, *key), Some(*spot), at),
-        Step::Stands(key, spot) => check_same(rt, place_of(table, *key), Some(*spot), at),
-        Step::Locks(hash, index) => check_same(rt, index_of(table, *hash), Some(*index), at),
-        Step::Reserves(hash, index) => {
-            check_same(rt, reserved_index_of(table, *hash), Some(*index), at);
+        Lock::Remove(key, spot) => check_same(rt, take_at(table, key), Some(spot), at),
+        Lock::FindPlace(key, spot) => check_same(rt, place_of(table, key), Some(spot), at),
+        Lock::FindBucket(hash, index) => check_same(rt, index_of(table, hash), Some(index), at),
+        Lock::FindReserved(hash, index) => {
+            check_same(rt, reserved_index_of(table, hash), Some(index), at);
         }
-        Step::Homes(key, home) => check_same(rt, home_of(table, *key), *home, at),
-        Step::Opens(ticket) => {
+        Lock::FindHome(key, home) => check_same(rt, home_of(table, key), home, at),
+    }
+}
+
+// Makes a call on the arrays or on tickets, and compares its result.
+fn check_rehash(rt: &impl Abort, table: &mut Map, at: At, call: &Rehash) -> Result<(), Fail> {
+    match call {
+        Rehash::MakeArray(len) => check_same(rt, table.get_or_create_array()?.len(), *len, at),
+        Rehash::TryResize(done) => check_same(rt, table.try_resize()?, *done, at),
+        Rehash::GrowIfOverfull(hash, done) => {
+            check_same(rt, table.grow_if_overfull(*hash)?, *done, at);
+        }
+        Rehash::RelocateRange(indexes) => relocate_range(table, indexes)?,
+        Rehash::IssueTicket(ticket) => {
             check_same(rt, table.start_incremental_rehash(), Some(*ticket), at);
         }
-        Step::Ends(ticket) => {
+        Rehash::EndTicket(ticket) => {
             let stays = matches!(table.end_incremental_rehash(*ticket, true), Ok(false));
             check_same(rt, stays, true, at);
         }
-        Step::Lost(ticket) => {
+        Rehash::EndUnknownTicket(ticket) => {
             let ended = table.end_incremental_rehash(*ticket, true);
             check_same(rt, matches!(ended, Err(TicketError::NotOpen)), true, at);
         }
-        Step::Clears => table.clear(),
-        _ => look(rt, table, at, step),
+        Rehash::Finish(units) => check_same(rt, finish(table)?, Some(*units), at),
     }
+    Ok(())
 }
 
-// Takes a step that looks, or sets the least capacity.
-fn look(rt: &impl Abort, table: &mut Map, at: At, step: &Step) {
-    match step {
-        Step::Sees(slots, word) => {
-            let found = (table.num_slots(), table.rehashing_metadata());
-            check_same(rt, found, (*slots, *word), at);
+// Relocates old buckets.
+fn relocate_range(table: &mut Map, indexes: &Range<usize>) -> Result<(), Fail> {
+    for index in indexes.start..indexes.end {
+        if !table.has_old_bucket(index) {
+            return Err("no old bucket".into());
         }
-        Step::Reads(key) => {
-            let found = table.reader_sync(key, |own: &u64, value: &u64| (*own, *value));
-            check_same(rt, found, Some((*key, *key)), at);
-        }
-        Step::Holds(key) => check_same(rt, table.peek_entry(key), Some((key, key)), at),
-        Step::Counts(pairs) => check_same(rt, table.num_entries(), *pairs, at),
-        Step::Lens(pairs) => {
+        table.relocate_bucket_sync(index)?;
+    }
+    Ok(())
+}
+
+// Compares what is seen of the table.
+fn check_expected(rt: &impl Abort, table: &Map, at: At, wanted: &Expect) {
+    match wanted {
+        Expect::Slots(slots, word) => check_slots(rt, table, at, *slots, *word),
+        Expect::Key(key) => check_same(rt, table.peek_entry(key), Some((key, key)), at),
+        Expect::Len(pairs) => {
             let found = (table.len(), table.is_empty());
             check_same(rt, found, (*pairs, *pairs == 0), at);
         }
-        Step::Each(keys) => meet_each(rt, table, at, keys),
-        Step::Raises(by) => check_same(rt, table.reserve_capacity(*by), *by, at),
-        Step::Asks(key, found, asked) => {
-            let mut probe = EqProbe::new(key);
-            let there = table.peek_entry_by(table.hash(key), &mut probe).is_some();
-            check_same(rt, (there, probe.asked()), (*found, *asked), at);
-        }
-        _ => check_same(rt, true, false, (at, "no step")),
+        Expect::Each(keys) => check_each(rt, table, at, keys),
     }
 }
 
+/// The current array has so many slots, and the rehash word is this one.
+pub(crate) fn check_slots(rt: &impl Abort, table: &Map, at: At, slots: usize, word: Option<usize>) {
+    let found = (table.num_slots(), table.rehashing_metadata());
+    check_same(rt, found, (slots, word), at);
+}
+
 // The pairs that `for_each` visits are these keys, each with itself as its value, in this order.
-fn meet_each(rt: &impl Abort, table: &Map, at: At, keys: &[u64]) {
+fn check_each(rt: &impl Abort, table: &Map, at: At, keys: &[u64]) {
     let mut came: usize = 0;
     let mut in_order = true;
     let mut meet = |key: &u64, value: &u64| {

@@ -8,7 +8,8 @@ use crate::by_lock::Map;
 use crate::checks::check_same;
 use crate::cursors::Stop;
 use crate::growth::DOUBLED;
-use crate::steps::steps;
+use crate::tables::Expect::*;
+use crate::tables::Rehash::*;
 use crate::tables::Step::*;
 use crate::tables::{Step, Story, new_map, play, tell};
 use bucket_slots::bucket::{Bucket, MAP};
@@ -16,22 +17,26 @@ use bucket_table::script::ScriptHash;
 use bucket_table::tickets::TICKET_STEP;
 use std::alloc::AllocError;
 use std::test::Fail;
+use test_helpers::steps;
 
 type Pairs = Bucket<u64, u64, (), MAP>;
 
 // An old array of 128 buckets, two units, beside one of 256.
 const TWO_UNITS: &[Step] = steps! {
-    Puts(5, 6), Sees(4096, None), Raises(4096), Sees(8192, Some(0)), Holds(5)
+    InsertRange(5..6), Expect(Slots(4096, None)), RaiseMinimum(4096), Expect(Slots(8192, Some(0))),
+    Expect(Key(5))
 };
 
 // An old array of 128 buckets with key 200 in its second unit, beside one of 256 with two keys.
 const ONE_UNIT_LEFT: &[Step] = steps! {
-    Puts(5, 6), Puts(200, 201), Raises(4096), Puts(250, 251), Sees(8192, Some(2048))
+    InsertRange(5..6), InsertRange(200..201), RaiseMinimum(4096), InsertRange(250..251),
+    Expect(Slots(8192, Some(2048)))
 };
 
 // A map of four buckets, the first with keys 0 to 31, and the third with the other seven.
 const SEVEN_BEHIND: &[Step] = steps! {
-    Puts(0, 31), Puts(128, 159), Puts(31, 32), Reads(0), Sees(128, None), Takes(128, 152)
+    InsertRange(0..31), InsertRange(128..159), InsertRange(31..32), Read(0),
+    Expect(Slots(128, None)), RemoveRange(128..152)
 };
 
 #[test]
@@ -103,38 +108,42 @@ fn take_key(bucket: &mut Pairs, key: u64) -> bool
 const STORIES: &[Story] = steps! {
     Story { name: "a rehash is finished unit by unit", hasher: ScriptHash::Spread, minimum: 4096,
         start: TWO_UNITS, steps: steps! {
-            Finishes(2), Sees(8192, None), Finishes(0), Sees(8192, None), Holds(5) } },
+            Rehash(Finish(2)), Expect(Slots(8192, None)), Rehash(Finish(0)),
+            Expect(Slots(8192, None)), Expect(Key(5)) } },
     Story { name: "a unit that is done is finished no more", hasher: ScriptHash::Spread,
         minimum: 4096, start: TWO_UNITS, steps: steps! {
-            Opens(0), Works(0, 64), Ends(0), Sees(8192, Some(2048)), Finishes(1),
-            Sees(8192, None), Holds(5) } },
+            Rehash(IssueTicket(0)), Rehash(RelocateRange(0..64)), Rehash(EndTicket(0)),
+            Expect(Slots(8192, Some(2048))), Rehash(Finish(1)), Expect(Slots(8192, None)),
+            Expect(Key(5)) } },
     Story { name: "a walk takes pairs out and leaves a short array", hasher: ScriptHash::Id,
-        minimum: 0, start: steps! { Puts(1, 4) }, steps: steps! {
-            Strips(2, 3), Sees(64, None),
-            Follows(&[Stop { keys: (1, 2), bucket: (0, 64), takes: false }]) } },
+        minimum: 0, start: steps! { InsertRange(1..4) }, steps: steps! {
+            RemoveInWalk(2, 3), Expect(Slots(64, None)),
+            FollowCursor(&[Stop { keys: 1..2, bucket: (0, 64), takes: false }]) } },
     // Once 0 to 31 are gone, the table shrinks, and the next bucket is the second of two.
     Story { name: "a cursor goes on over the shrink that it brings", hasher: ScriptHash::Spread,
         minimum: 0, start: SEVEN_BEHIND, steps: steps! {
-            Follows(&[
-                Stop { keys: (0, 32), bucket: (0, 128), takes: true },
-                Stop { keys: (152, 159), bucket: (1, 64), takes: false },
+            FollowCursor(&[
+                Stop { keys: 0..32, bucket: (0, 128), takes: true },
+                Stop { keys: 152..159, bucket: (1, 64), takes: false },
             ]),
-            Sees(64, None), Counts(7) } },
+            Expect(Slots(64, None)), Count(7) } },
     Story { name: "a sweep goes on over the shrink that it brings", hasher: ScriptHash::Spread,
         minimum: 0, start: SEVEN_BEHIND, steps: steps! {
-            Sweeps(128, 32), Sees(64, None), Counts(7), Holds(152) } },
+            Sweep(128, 32), Expect(Slots(64, None)), Count(7), Expect(Key(152)) } },
     Story { name: "each pair comes once, those of the old array last", hasher: ScriptHash::Spread,
         minimum: 4096, start: ONE_UNIT_LEFT, steps: steps! {
-            Each(&[5, 250, 200]), Lens(3), Sees(8192, Some(2048)), Counts(3), Sees(8192, None),
-            Each(&[5, 200, 250]), Lens(3) } },
+            Expect(Each(&[5, 250, 200])), Expect(Len(3)), Expect(Slots(8192, Some(2048))), Count(3),
+            Expect(Slots(8192, None)), Expect(Each(&[5, 200, 250])), Expect(Len(3)) } },
     Story { name: "a length counts the old array alone", hasher: ScriptHash::Spread, minimum: 0,
-        start: DOUBLED, steps: steps! { Lens(63), Sees(128, Some(0)) } },
+        start: DOUBLED, steps: steps! { Expect(Len(63)), Expect(Slots(128, Some(0))) } },
     // The next array has the minimum's length, which was raised.
     Story { name: "a cleared table forgets its arrays and tickets", hasher: ScriptHash::Spread,
         minimum: 4096, start: ONE_UNIT_LEFT, steps: steps! {
-            Opens(2048), Sees(8192, Some(4097)), Clears, Sees(0, None), Lens(0), Each(&[]),
-            Lost(2048), Puts(200, 202), Sees(8192, None), Each(&[200, 201]), Lens(2),
-            Clears, Clears, Counts(0), Sees(0, None) } }
+            Rehash(IssueTicket(2048)), Expect(Slots(8192, Some(4097))), Clear,
+            Expect(Slots(0, None)), Expect(Len(0)), Expect(Each(&[])),
+            Rehash(EndUnknownTicket(2048)), InsertRange(200..202), Expect(Slots(8192, None)),
+            Expect(Each(&[200, 201])), Expect(Len(2)), Clear, Clear, Count(0),
+            Expect(Slots(0, None)) } }
 };
 
 #[test]

@@ -11,39 +11,39 @@ type Words = HashTable<&'static str, u64, StdHash<BuildHasherDefault<FoldHasher>
 
 /// A call on a map of words.
 enum Step {
-    /// A word is inserted with a number, if it was absent.
+    /// Insert a word with a number: whether it was absent.
     Put(&'static str, u64, bool),
-    /// A word has this number, or is absent.
-    Has(&'static str, Option<u64>),
-    /// A word is removed with its number, if it was present.
+    /// Expect a word to have this number, or to be absent.
+    ExpectNumber(&'static str, Option<u64>),
+    /// Remove a word with its number, if it was present.
     Take(&'static str, Option<(&'static str, u64)>),
-    /// So many words are present.
-    Len(usize),
-    /// All words are removed.
+    /// Expect so many words.
+    ExpectLen(usize),
+    /// Remove all words.
     Clear,
 }
 
 const STEPS: &[Step] = &[
-    Step::Len(0),
-    Step::Has("", None),
+    Step::ExpectLen(0),
+    Step::ExpectNumber("", None),
     Step::Put("", 0, true),
     Step::Put("ab", 2, true),
     Step::Put("a", 1, true),
     Step::Put("ab", 3, false),
-    Step::Has("ab", Some(2)),
-    Step::Has("b", None),
-    Step::Len(3),
+    Step::ExpectNumber("ab", Some(2)),
+    Step::ExpectNumber("b", None),
+    Step::ExpectLen(3),
     Step::Take("ab", Some(("ab", 2))),
     Step::Take("ab", None),
-    Step::Has("", Some(0)),
-    Step::Has("a", Some(1)),
-    Step::Len(2),
+    Step::ExpectNumber("", Some(0)),
+    Step::ExpectNumber("a", Some(1)),
+    Step::ExpectLen(2),
     Step::Clear,
-    Step::Len(0),
-    Step::Has("a", None),
+    Step::ExpectLen(0),
+    Step::ExpectNumber("a", None),
     Step::Put("a", 4, true),
-    Step::Has("a", Some(4)),
-    Step::Len(1),
+    Step::ExpectNumber("a", Some(4)),
+    Step::ExpectLen(1),
 ];
 
 #[test]
@@ -63,12 +63,12 @@ fn play(rt: &impl Abort, words: &mut Words, row: usize, step: &Step) {
             let put = words.insert_pair(word, number, &(), ResizeRule::Sampled);
             check_same(rt, put.is_ok(), done, row);
         }
-        Step::Has(word, number) => {
+        Step::ExpectNumber(word, number) => {
             let found = words.peek_entry(&word).map(|pair| *pair.1);
             check_same(rt, found, number, row);
         }
         Step::Take(word, pair) => check_same(rt, words.take(&word, ResizeRule::Sampled), pair, row),
-        Step::Len(words_there) => {
+        Step::ExpectLen(words_there) => {
             let found = (words.len(), words.is_empty());
             check_same(rt, found, (words_there, words_there == 0), row);
         }

@@ -1,6 +1,5 @@
-//! A collection and its expected contents, and calls on both. Phases with many insertions and
-//! phases with many removals alternate, so that the collection gets longer arrays and shorter ones
-//! again.
+//! A collection and its expected contents, and calls on both. Phases in which the collection grows
+//! and phases in which it shrinks alternate, so that it gets longer arrays and shorter ones again.
 mod copying;
 mod extending;
 mod resizing;
@@ -8,20 +7,14 @@ mod resizing;
 use crate::collection::Collection;
 use collections::hash_map::NotInserted;
 use std::mem;
-use test_helpers::{Chance, FewKeys, KEYS};
+use test_helpers::{Chance, FewKeys, KEYS, KeyCall, gather, is_growing, spread};
 
-// How many calls mostly insert pairs, and how many then mostly remove them.
-const TIDE: u64 = 4000;
+// How many calls a phase has.
+const PHASE: u64 = 4000;
 
 // After how many calls the whole collection is compared and copied, and one call is made on all of
 // it.
 const WHOLE: u64 = 250;
-
-// An odd number whose set bits are spread out, so that keys have homes all over the array.
-const SPREADING: u64 = 11400714819323198485;
-
-// The inverse of the number above, modulo 2^64.
-const GATHERING: u64 = 17428512612931826493;
 
 /// A collection, its expected contents, how often a pair was inserted, failed to be inserted, and
 /// was evicted, and how often the collection was copied, and failed to be copied.
@@ -56,7 +49,7 @@ impl Course {
     /// and the collection has the expected pairs.
     pub(crate) fn play(&mut self, calls: u64) -> bool {
         for number in 0..calls {
-            if !self.call(number / TIDE % 2 == 0) {
+            if !self.call(is_growing(number, PHASE)) {
                 return false;
             }
             if number % WHOLE == 0 && !self.call_whole(number / WHOLE % 2 == 0) {
@@ -73,24 +66,24 @@ impl Course {
         is_copied && self.call_on_all() && self.is_same()
     }
 
-    /// Makes a call by key, and returns whether its result is right. In insertion phases few pairs
-    /// are removed; in removal phases none is inserted.
-    fn call(&mut self, comes: bool) -> bool {
+    /// Makes a call by key, in a phase in which the collection grows or shrinks. Returns whether
+    /// its result is right.
+    fn call(&mut self, grows: bool) -> bool {
         let number = self.chance.next() % KEYS;
         let has_values = !matches!(self.collection, Collection::Set(_));
         let value = self.chance.next().wrapping_mul(u64::from(has_values));
-        match (self.chance.next() % 16, comes) {
-            (0..=3, true) => self.insert(number, value),
-            (4..=6, true) => self.upsert(number, value),
-            (0..=6, false) | (7..=8, _) => self.remove(number),
-            (9..=11, _) => self.update(number, value),
-            _ => self.collection.value(key_of(number)) == self.beside.value(number),
+        match self.chance.key_call(grows) {
+            KeyCall::Insert => self.insert(number, value),
+            KeyCall::Upsert => self.upsert(number, value),
+            KeyCall::Remove => self.remove(number),
+            KeyCall::Update => self.update(number, value),
+            KeyCall::Get => self.collection.value(spread(number)) == self.beside.value(number),
         }
     }
 
     /// Inserts a pair.
     fn insert(&mut self, number: u64, value: u64) -> bool {
-        let key = key_of(number);
+        let key = spread(number);
         let is_there = self.beside.value(number).is_some();
         match self.collection.insert(key, value) {
             Ok(gone) => {
@@ -111,7 +104,7 @@ impl Course {
         let Some((key, value)) = gone else {
             return true;
         };
-        let number = key.wrapping_mul(GATHERING);
+        let number = gather(key);
         let was_there = self.beside.value(number) == Some(value);
         self.beside.set(number, None);
         self.gone = self.gone.saturating_add(1);
@@ -120,7 +113,7 @@ impl Course {
 
     /// Upserts a pair in a map; inserts a pair into another collection.
     fn upsert(&mut self, number: u64, value: u64) -> bool {
-        let key = key_of(number);
+        let key = spread(number);
         let wanted = self.beside.value(number);
         let Collection::Map(map) = &mut self.collection else {
             return self.insert(number, value);
@@ -149,7 +142,7 @@ impl Course {
 
     /// Removes a pair.
     fn remove(&mut self, number: u64) -> bool {
-        let key = key_of(number);
+        let key = spread(number);
         let wanted = self.beside.value(number).map(|value| (key, value));
         self.beside.set(number, None);
         self.collection.remove(key) == wanted
@@ -157,7 +150,7 @@ impl Course {
 
     /// Replaces the value of a map's key, touches a cache's pair, or looks the key up.
     fn update(&mut self, number: u64, value: u64) -> bool {
-        let key = key_of(number);
+        let key = spread(number);
         let wanted = self.beside.value(number);
         match &mut self.collection {
             Collection::Map(map) => {
@@ -196,15 +189,10 @@ impl Course {
     /// Returns whether a collection has exactly the pairs that this one is expected to have.
     fn agrees_with(&self, collection: &Collection) -> bool {
         for number in 0..KEYS {
-            if collection.value(key_of(number)) != self.beside.value(number) {
+            if collection.value(spread(number)) != self.beside.value(number) {
                 return false;
             }
         }
         collection.lens() == (self.beside.len(), self.beside.len())
     }
-}
-
-/// Returns the key of a number.
-fn key_of(number: u64) -> u64 {
-    number.wrapping_mul(SPREADING)
 }

@@ -1,11 +1,11 @@
 //! Calls on tables, each on a table of its own, for runs in which an allocation fails. A call that
 //! failed leaves what its contract states, and succeeds when it is repeated.
 use crate::by_call::*;
-use crate::cases::Step::*;
-use crate::cases::{CASES, Case, Seen, Step};
+use crate::cases::{CASES, Call, Case, Expect, Seen, Step};
 use crate::outcome::Outcome;
 use bucket_table::hash_table::{HashTable, MAXIMUM_CAPACITY_LIMIT};
 use std::alloc::Global;
+use std::ops::Range;
 use test_helpers::{FewKeys, KEYS};
 
 /// Runs the cases, each if the one before was done.
@@ -49,17 +49,37 @@ fn judged(table: &mut Map, beside: &FewKeys, outcome: Outcome) -> Outcome {
     }
 }
 
-/// Takes a step, or the steps for a range of keys.
+/// Takes a step.
 fn play(alloc: Global, table: &mut Map, beside: &mut FewKeys, step: &Step) -> Outcome {
-    let (from, to, puts) = match step {
-        Puts(from, to) => (*from, *to, true),
-        Takes(from, to) => (*from, *to, false),
-        _ => return attempt(alloc, table, beside, step),
-    };
+    match step {
+        Step::InsertRange(keys) => attempt_range(alloc, table, beside, keys, true),
+        Step::RemoveRange(keys) => attempt_range(alloc, table, beside, keys, false),
+        Step::Call(call) => attempt(alloc, table, beside, call),
+        Step::Expect(wanted) => match look(table, wanted) {
+            Answer::Right => Outcome::Done,
+            Answer::Unresized => Outcome::Unresized,
+            Answer::Unmoved => Outcome::Unmoved,
+            Answer::Refused | Answer::Wrong => Outcome::Wrong,
+        },
+    }
+}
+
+/// Inserts or removes keys, up to a wrong outcome. Else the outcome is the last unusual one.
+fn attempt_range(
+    alloc: Global,
+    table: &mut Map,
+    beside: &mut FewKeys,
+    keys: &Range<u64>,
+    inserts: bool,
+) -> Outcome {
     let mut outcome = Outcome::Done;
-    for key in from..to {
-        let step = if puts { Put(key) } else { Take(key) };
-        match attempt(alloc, table, beside, &step) {
+    for key in keys.start..keys.end {
+        let call = if inserts {
+            Call::Insert(key)
+        } else {
+            Call::Remove(key)
+        };
+        match attempt(alloc, table, beside, &call) {
             Outcome::Done => {}
             Outcome::Wrong => return Outcome::Wrong,
             other => outcome = other,
@@ -68,11 +88,11 @@ fn play(alloc: Global, table: &mut Map, beside: &mut FewKeys, step: &Step) -> Ou
     outcome
 }
 
-/// Takes a step, and repeats it if an allocation failed and it left the slots, the word and the
-/// pairs unchanged.
-fn attempt(alloc: Global, table: &mut Map, beside: &mut FewKeys, step: &Step) -> Outcome {
+/// Makes a call, and repeats it if an allocation failed and it left the slots, the word and the
+/// pairs.
+fn attempt(alloc: Global, table: &mut Map, beside: &mut FewKeys, call: &Call) -> Outcome {
     let before = seen_of(table);
-    match take(alloc, table, beside, step) {
+    match take(alloc, table, beside, call) {
         Answer::Right => return Outcome::Done,
         Answer::Unresized => return Outcome::Unresized,
         Answer::Unmoved => return Outcome::Unmoved,
@@ -82,59 +102,57 @@ fn attempt(alloc: Global, table: &mut Map, beside: &mut FewKeys, step: &Step) ->
     if seen_of(table) != before || !holds(table, beside) {
         return Outcome::Wrong;
     }
-    match take(alloc, table, beside, step) {
+    match take(alloc, table, beside, call) {
         Answer::Right => Outcome::AsBefore,
         _ => Outcome::Wrong,
     }
 }
 
-/// Takes a step.
-fn take(alloc: Global, table: &mut Map, beside: &mut FewKeys, step: &Step) -> Answer {
-    match step {
-        Put(key) => put(table, beside, *key),
-        Runs(key) => run_calls(alloc, table, *key),
-        Take(key) => take_out(table, beside, *key),
-        Raises(by) => right_if(table.reserve_capacity(*by) == *by),
-        Opens(ticket) => right_if(table.start_incremental_rehash() == Some(*ticket)),
-        Makes(len) => make(table, *len),
-        Locks(hash, index) => lock(table, *hash, *index),
-        Reserves(hash, index) => reserve(table, *hash, *index),
-        Resizes(comes) => resize(table, *comes),
-        Doubles(hash, comes) => double(table, *hash, *comes),
-        Reads(key) => read(table, *key),
-        Writes(key) => write(table, beside, *key),
-        Relocates(index, pairs) => relocate(table, *index, *pairs),
-        Finishes(units) => finish(table, *units),
-        Walks(whole, refused) => walk(table, *whole, *refused),
-        Visits(whole, refused) => visit(table, *whole, *refused),
-        Meets(first, second) => meet(table, *first, *second),
-        Sweeps(below, passed) => sweep(table, beside, *below, *passed),
-        _ => look(table, step),
+/// Makes a call.
+fn take(alloc: Global, table: &mut Map, beside: &mut FewKeys, call: &Call) -> Answer {
+    match call {
+        Call::Insert(key) => put(table, beside, *key),
+        Call::Remove(key) => take_out(table, beside, *key),
+        Call::RunScript(key) => run_calls(alloc, table, *key),
+        Call::RaiseMinimum(by) => right_if(table.reserve_capacity(*by) == *by),
+        Call::IssueTicket(ticket) => { right_if(table.start_incremental_rehash() == Some(*ticket)) }
+        Call::MakeArray(len) => make(table, *len),
+        Call::LockBucket(hash, index) => lock(table, *hash, *index),
+        Call::ReserveBucket(hash, index) => reserve(table, *hash, *index),
+        Call::TryResize(comes) => resize(table, *comes),
+        Call::GrowIfOverfull(hash, comes) => double(table, *hash, *comes),
+        Call::Read(key) => read(table, *key),
+        Call::Write(key) => write(table, beside, *key),
+        Call::Relocate(index, pairs) => relocate(table, *index, *pairs),
+        Call::Finish(units) => finish(table, *units),
+        Call::WalkReading(whole, refused) => walk(table, *whole, *refused),
+        Call::WalkWriting(whole, refused) => visit(table, *whole, *refused),
+        Call::FollowCursor(first, second) => meet(table, *first, *second),
+        Call::Sweep(below, passed) => sweep(table, beside, *below, *passed),
     }
 }
 
-/// Takes a step that only observes.
-fn look(table: &Map, step: &Step) -> Answer {
-    match step {
-        Sees(wanted) => right_if(seen_of(table) == *wanted),
-        Resized(wanted, left_out) => right_or(
-            seen_of(table) == *wanted,
+/// Compares what is seen of the table.
+fn look(table: &Map, wanted: &Expect) -> Answer {
+    match wanted {
+        Expect::Slots(seen) => right_if(seen_of(table) == *seen),
+        Expect::Resized(seen, left_out) => right_or(
+            seen_of(table) == *seen,
             seen_of(table) == *left_out,
             Answer::Unresized,
         ),
-        Worked(wanted, given_up) => right_or(
-            seen_of(table) == *wanted,
+        Expect::Worked(seen, given_up) => right_or(
+            seen_of(table) == *seen,
             seen_of(table) == *given_up,
             Answer::Unmoved,
         ),
-        Moved(index, pairs) => right_or(
+        Expect::InOwnSlot(key, index, slot) => right_if(stands(table, *key, *index, *slot)),
+        Expect::Killed(index) => right_if(is_moved(table, *index)),
+        Expect::Moved(index, pairs) => right_or(
             is_moved(table, *index),
             old_bucket(table, *index) == Some((false, *pairs)),
             Answer::Unmoved,
         ),
-        Stands(key, index, slot) => right_if(stands(table, *key, *index, *slot)),
-        IsKilled(index) => right_if(is_moved(table, *index)),
-        _ => Answer::Wrong,
     }
 }
 

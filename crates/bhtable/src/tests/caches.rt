@@ -3,12 +3,12 @@ use super::Row::{Each, Say};
 use super::{Row, Story, rows};
 
 // One hash for all keys, so that the keys below 32 fill the own slots of their numbers.
-const FULL: &[Row] = rows! { Say("new cache zero 64 64", "ok"), Each(0, 32, "put # #", "ok") };
+const FULL: &[Row] = rows! { Say("new cache zero 64 64", "ok"), Each(0..32, "put # #", "ok") };
 
 // Thirty-one pairs in each of two buckets.
 const TWO_BUCKETS: &[Row] = rows! {
-    Say("new cache spread 0 128", "ok"), Each(0, 31, "put # #", "ok"),
-    Each(128, 159, "put # #", "ok")
+    Say("new cache spread 0 128", "ok"), Each(0..31, "put # #", "ok"),
+    Each(128..159, "put # #", "ok")
 };
 
 pub(super) const STORIES: &[Story] = rows! {
@@ -32,7 +32,7 @@ pub(super) const STORIES: &[Story] = rows! {
         Say("peek 9", "value 9"), Say("write 9 1", "old 9"), Say("evict 99", "pair 9 1"),
         Say("put 9 2", "ok"), Say("evict 99", "pair 4 4") } }),
     ("pairs that overflow are not evicted", rows! { FULL, rows! {
-        Each(32, 40, "put # #", "ok"), Each(0, 40, "touch #", "ok"), Say("evict 0", "pair 0 0"),
+        Each(32..40, "put # #", "ok"), Each(0..40, "touch #", "ok"), Say("evict 0", "pair 0 0"),
         Say("count", "39"), Say("evict 0", "nothing") } }),
     // The look-up moves the old pairs: the two that were touched are evicted in the order in which
     // they were touched, and then the pair of the first slot.
@@ -43,9 +43,9 @@ pub(super) const STORIES: &[Story] = rows! {
         Say("evict 0", "pair 0 0") } }),
     // One old bucket has no pair left; the other has 152 to 158, and 158 was touched first.
     ("touches are remembered over a shrinkage", rows! { TWO_BUCKETS, rows! {
-        Say("put 31 31", "ok"), Say("slots", "128"), Each(128, 152, "remove #", "pair # #"),
-        Say("touch 158", "ok"), Say("touch 152", "ok"), Each(0, 32, "remove #", "pair # #"),
-        Say("slots", "64"), Each(160, 185, "put # #", "ok"), Say("evict 152", "pair 158 158") } }),
+        Say("put 31 31", "ok"), Say("slots", "128"), Each(128..152, "remove #", "pair # #"),
+        Say("touch 158", "ok"), Say("touch 152", "ok"), Each(0..32, "remove #", "pair # #"),
+        Say("slots", "64"), Each(160..185, "put # #", "ok"), Say("evict 152", "pair 158 158") } }),
     ("a clearing of a cache leaves no pair", rows! { FULL, rows! {
         Say("touch 7", "ok"), Say("walk", "walked 2 32"), Say("clear", "cleared 32"),
         Say("evict 0", "nothing"), Say("count", "0") } })

@@ -5,8 +5,8 @@ use super::{Row, Story, rows};
 // Thirty-one pairs in each of two buckets, and one more: 64 slots have just become 128. The last
 // pair went to a bucket of the old array.
 const DOUBLED: &[Row] = rows! {
-    Say("new map spread 0 9223372036854775808", "ok"), Each(0, 31, "put # #", "ok"),
-    Each(128, 159, "put # #", "ok"), Say("slots", "64"), Say("put 31 31", "ok"),
+    Say("new map spread 0 9223372036854775808", "ok"), Each(0..31, "put # #", "ok"),
+    Each(128..159, "put # #", "ok"), Say("slots", "64"), Say("put 31 31", "ok"),
     Say("slots", "128")
 };
 
@@ -39,7 +39,7 @@ pub(super) const STORIES: &[Story] = rows! {
         Say("release 4096", "4096"), Say("slots", "4096") } }),
     // The last bucket, which has no pair, is the sample.
     ("one hash for all keys makes a chain and no growth", rows! { rows! {
-        Say("new map zero 0 9223372036854775808", "ok"), Each(0, 37, "put # #", "ok"),
+        Say("new map zero 0 9223372036854775808", "ok"), Each(0..37, "put # #", "ok"),
         Say("slots", "64"), Say("word", "none"), Say("count", "37"),
         Say("walk", "walked 2 37") } }),
     ("one read ends a growth", rows! { DOUBLED, rows! {
@@ -50,13 +50,13 @@ pub(super) const STORIES: &[Story] = rows! {
         Say("walk", "walked 0 0") } }),
     // Once the bucket of keys 128 to 158 is empty, the first two are looked at.
     ("an array goes with its last pair", rows! { DOUBLED, rows! {
-        Each(128, 159, "remove #\nslots", "pair # #\n128"),
-        Each(0, 31, "remove #\nslots", "pair # #\n128"), Say("remove 31", "pair 31 31"),
+        Each(128..159, "remove #\nslots", "pair # #\n128"),
+        Each(0..31, "remove #\nslots", "pair # #\n128"), Say("remove 31", "pair 31 31"),
         Say("slots", "0"), Say("peek 31", "absent") } }),
     // An old array keeps the current one from going, and a count lets it go later.
     ("an array stays beside an open ticket", rows! { DOUBLED, rows! {
-        Say("start", "ticket 0"), Each(128, 159, "remove #\nslots", "pair # #\n128"),
-        Each(0, 32, "remove #\nslots", "pair # #\n128"), Say("word", "2049"),
+        Say("start", "ticket 0"), Each(128..159, "remove #\nslots", "pair # #\n128"),
+        Each(0..32, "remove #\nslots", "pair # #\n128"), Say("word", "2049"),
         Say("end 0 done", "gone"), Say("word", "none"), Say("slots", "128"), Say("count", "0"),
         Say("slots", "0") } })
 };

@@ -9,8 +9,8 @@ pub(super) const STORIES: &[Story] = rows! {
     // The tombstone of each removed pair has an epoch that equals its hash's byte. Once the
     // tombstones are dropped, those slots are used again.
     ("removed keys are absent while their marks are kept and after", rows! { rows! {
-        Say("new index zero 0 9223372036854775808", "ok"), Each(0, 32, "put # #", "ok"),
-        Each(0, 4, "remove #", "pair # #"), Say("peek 0", "absent"), Say("read 3", "absent"),
+        Say("new index zero 0 9223372036854775808", "ok"), Each(0..32, "put # #", "ok"),
+        Each(0..4, "remove #", "pair # #"), Say("peek 0", "absent"), Say("read 3", "absent"),
         Say("remove 0", "absent"), Say("write 1 5", "absent"), Say("count", "28"),
         Say("put 32 32", "ok"), Say("peek 32", "value 32"), Say("count", "29"),
         Say("epoch 0 drop", "ok"), Say("put 33 33", "ok"), Say("count", "30"),
@@ -19,8 +19,8 @@ pub(super) const STORIES: &[Story] = rows! {
     // Key 1 has the hash 1, so epoch 1 equals its byte.
     ("a key comes again beside its marks", rows! { rows! {
         Say("new index id 0 64", "ok"),
-        Each(0, 40, "epoch 1 keep\nput 1 1#\nremove 1\nremove 1", "ok\nok\npair 1 1#\nabsent"),
-        Each(0, 40, "epoch # drop\nput 1 2#\nput 1 3\nwrite 1 3#\nremove 1\nhas",
+        Each(0..40, "epoch 1 keep\nput 1 1#\nremove 1\nremove 1", "ok\nok\npair 1 1#\nabsent"),
+        Each(0..40, "epoch # drop\nput 1 2#\nput 1 3\nwrite 1 3#\nremove 1\nhas",
             "ok\nok\npresent\nold 2#\npair 1 3#\nfalse"),
         Say("peek 1", "absent") } }),
     ("an epoch stays until the next, or until a fresh table", rows! { ONE_KEY, rows! {
@@ -33,7 +33,7 @@ pub(super) const STORIES: &[Story] = rows! {
     ("an index touches and evicts nothing", rows! { ONE_KEY, rows! {
         Say("touch 0", "wrong kind"), Say("evict 0", "wrong kind"), Say("count", "1") } }),
     ("a clearing marks every pair", rows! { ONE_KEY, rows! {
-        Each(1, 40, "put # #", "ok"), Say("remove 7", "pair 7 7"), Say("clear", "cleared 39"),
+        Each(1..40, "put # #", "ok"), Say("remove 7", "pair 7 7"), Say("clear", "cleared 39"),
         Say("count", "0"), Say("peek 0", "absent"), Say("put 0 1", "ok"),
         Say("read 0", "value 1") } }),
     ("an epoch changes nothing in a map or a cache", rows! { rows! {

@@ -28,17 +28,17 @@ pub(super) const STORIES: &[Story] = rows! {
         Say("walk", "walked 2 1"), Say("remove 1", "pair 1 10"), Say("count", "0"),
         Say("has", "false"), Say("walk", "walked 2 0") } }),
     ("a bucket takes pairs beyond its own slots", rows! { rows! {
-        Say("new map id 0 64", "ok"), Each(0, 32, "put # 0", "ok"), Say("put 31 9", "present"),
+        Say("new map id 0 64", "ok"), Each(0..32, "put # 0", "ok"), Say("put 31 9", "present"),
         Say("put 32 0", "ok"), Say("put 33 5", "ok"), Say("peek 32", "value 0"),
         Say("remove 4", "pair 4 0"), Say("count", "33"), Say("write 33 6", "old 5"),
         Say("remove 32", "pair 32 0"), Say("read 33", "value 6") } }),
     ("forty pairs of one hash come and go", rows! { rows! {
-        Say("new map zero 0 64", "ok"), Each(0, 40, "put # 1#", "ok"), Say("count", "40"),
+        Say("new map zero 0 64", "ok"), Each(0..40, "put # 1#", "ok"), Say("count", "40"),
         Say("put 39 0", "present"), Say("put 31 0", "present"),
-        Each(0, 40, "read #\nremove #\nread #", "value 1#\npair # 1#\nabsent"),
+        Each(0..40, "read #\nremove #\nread #", "value 1#\npair # 1#\nabsent"),
         Say("count", "0"), Say("has", "false"), Say("slots", "0") } }),
     // More replies than are buffered at once, and more calls than a table is given at once.
     ("a long script has a reply to every line", rows! { rows! {
         Say("new map id 0 64", "ok"), Say("put 7 12345678901234567890", "ok"),
-        Each(0, 3000, "peek 7\npeek 8", "value 12345678901234567890\nabsent") } })
+        Each(0..3000, "peek 7\npeek 8", "value 12345678901234567890\nabsent") } })
 };

@@ -22,8 +22,8 @@ macro_rules! tickets {
 
 // Work on buckets one after another, observed in the same way.
 macro_rules! works {
-    ($from:literal, $to:literal, $word:literal) => {
-        &[Each($from, $to, "work #\nword\npeek 5", concat!("ok\n", $word, "\nvalue 50"))]
+    ($numbers:expr, $word:literal) => {
+        &[Each($numbers, "work #\nword\npeek 5", concat!("ok\n", $word, "\nvalue 50"))]
     };
 }
 
@@ -33,13 +33,13 @@ pub(super) const STORIES: &[Story] = rows! {
         "start" => "ticket 2048", "4098";
         "start" => "none", "4098";
         "end 0 fail" => "stays", "1";
-    }, works!(64, 128, "1"), tickets! {
+    }, works!(64..128, "1"), tickets! {
         "end 2048 done" => "stays", "0";
         "start" => "ticket 0", "2049";
-    }, works!(0, 64, "2049"), tickets! {
+    }, works!(0..64, "2049"), tickets! {
         "end 0 done" => "stays", "2048";
         "start" => "ticket 2048", "4097";
-    }, works!(64, 128, "4097"), tickets! {
+    }, works!(64..128, "4097"), tickets! {
         "work 127" => "ok", "4097";
         "work 128" => "none", "4097";
         "end 2048 done" => "gone", "none";
@@ -62,7 +62,7 @@ pub(super) const STORIES: &[Story] = rows! {
     } }),
     // Each round leaves one ticket of the second unit open.
     ("at most 2047 tickets are open", rows! { TWO_UNITS, rows! {
-        Each(0, 2046, "start\nstart\nend 0 fail", "ticket 0\nticket 2048\nstays"),
+        Each(0..2046, "start\nstart\nend 0 fail", "ticket 0\nticket 2048\nstays"),
         Say("word", "2046")
     }, tickets! {
         "start" => "ticket 0", "4095";
@@ -78,7 +78,7 @@ pub(super) const STORIES: &[Story] = rows! {
         "end 0 fail" => "stays", "1";
         "start" => "ticket 0", "2050";
         "start" => "ticket 2048", "4099";
-    }, works!(0, 128, "4099"), tickets! {
+    }, works!(0..128, "4099"), tickets! {
         "end 2048 done" => "stays", "4098";
         "end 2048 done" => "stays", "4097";
         "end 2048 done" => "refused 1", "4097";
@@ -88,7 +88,7 @@ pub(super) const STORIES: &[Story] = rows! {
     ("units end out of order", rows! { TWO_UNITS, tickets! {
         "start" => "ticket 0", "2049";
         "start" => "ticket 2048", "4098";
-    }, works!(0, 128, "4098"), tickets! {
+    }, works!(0..128, "4098"), tickets! {
         "end 2048 fail" => "stays", "2049";
         "end 0 done" => "stays", "2048";
         "start" => "ticket 2048", "4097";

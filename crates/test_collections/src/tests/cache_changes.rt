@@ -1,102 +1,123 @@
 //! Stories of a cache whose values are changed: which of the calls touch a pair, and which pair is
 //! evicted then.
+use super::caches::Expect::*;
 use super::caches::Made::*;
 use super::caches::Step::*;
 use super::caches::Story;
-use super::steps;
+use super::caches::Write::*;
 use bucket_table::script::ScriptHash;
+use test_helpers::steps;
 
 // Under the hash 0 all keys have one bucket, of 32 own slots. Under the hash that spreads low bytes
 // the keys below 128 have the first of two buckets, and those below 64 the first of four.
 pub(super) const STORIES: &[Story] = steps! {
     Story { name: "each touch is seen in the walk by use", hasher: ScriptHash::Zero,
         made: Within(0, 256), steps: steps! {
-            Fills(0, 6), ByUse(&[5, 4, 3, 2, 1, 0]), Gets(1, Some(1)), Holds(3, Some(3)),
-            ByUse(&[1, 5, 4, 3, 2, 0]), Replaces(0, 50, 0), Writes(2, 52, Some(2)),
-            Updates(4, 54, Some((4, 4))), Pokes(5, 55, Some(5)), ByUse(&[2, 0, 1, 5, 4, 3]),
-            Removes(1, Some((1, 1))), ByUse(&[2, 0, 5, 4, 3]), Len(5), Puts(6, 6, None),
-            ByUse(&[6, 2, 0, 5, 4, 3]), Retains, ByUse(&[6, 2, 0, 4]), Clears, ByUse(&[]) } },
+            PutRange(0..6), Expect(ByUse(&[5, 4, 3, 2, 1, 0])), Get(1, Some(1)),
+            Expect(Value(3, Some(3))), Expect(ByUse(&[1, 5, 4, 3, 2, 0])), UpsertPresent(0, 50, 0),
+            Write(ByGetMut(2, 52, Some(2))), Write(ByUpdate(4, 54, Some((4, 4)))),
+            Write(ByPeekMut(5, 55, Some(5))), Expect(ByUse(&[2, 0, 1, 5, 4, 3])),
+            Remove(1, Some((1, 1))), Expect(ByUse(&[2, 0, 5, 4, 3])), Expect(Len(5)),
+            Put(6, 6, None), Expect(ByUse(&[6, 2, 0, 5, 4, 3])), RetainEvenAndAdd100,
+            Expect(ByUse(&[6, 2, 0, 4])), Clear, Expect(ByUse(&[])) } },
     Story { name: "a walk by use goes bucket by bucket", hasher: ScriptHash::Spread,
         made: Within(0, 0), steps: steps! {
-            Fills(128, 131), Fills(0, 3), Gets(129, Some(129)), Gets(0, Some(0)), Slots(64),
-            ByUse(&[0, 2, 1, 129, 130, 128]) } },
+            PutRange(128..131), PutRange(0..3), Get(129, Some(129)), Get(0, Some(0)),
+            Expect(Slots(64)), Expect(ByUse(&[0, 2, 1, 129, 130, 128])) } },
     Story { name: "of the pairs of two buckets the ones touched longest ago go for a smaller size",
         hasher: ScriptHash::Spread, made: Sized(128), steps: steps! {
-            Fills(0, 32), Fills(64, 74), Gets(0, Some(0)), Slots(128), Len(42), Resizes(64),
-            Slots(64), Len(32), Holds(1, None), Holds(10, None), Holds(11, Some(11)),
-            Holds(0, Some(0)), Gets(64, Some(64)), Puts(32, 32, Some((11, 11))),
-            Puts(33, 33, Some((12, 12))), Fills(128, 160), Pushes(160, 161, 128), Len(64) } },
+            PutRange(0..32), PutRange(64..74), Get(0, Some(0)), Expect(Slots(128)), Expect(Len(42)),
+            Resize(64), Expect(Slots(64)), Expect(Len(32)), Expect(Value(1, None)),
+            Expect(Value(10, None)), Expect(Value(11, Some(11))), Expect(Value(0, Some(0))),
+            Get(64, Some(64)), Put(32, 32, Some((11, 11))), Put(33, 33, Some((12, 12))),
+            PutRange(128..160), PutRangeEvicting(160..161, 128), Expect(Len(64)) } },
     Story { name: "a greater size has room for more, and keeps the order of touches",
         hasher: ScriptHash::Spread, made: Sized(64), steps: steps! {
-            Fills(64, 96), Gets(64, Some(64)), Puts(0, 0, Some((65, 65))), Resizes(100), Slots(128),
-            Len(32), Fills(65, 66), Pushes(96, 97, 66), Gets(67, Some(67)), Pushes(97, 98, 68),
-            Fills(1, 32), Len(64), Slots(128) } },
+            PutRange(64..96), Get(64, Some(64)), Put(0, 0, Some((65, 65))), Resize(100),
+            Expect(Slots(128)), Expect(Len(32)), PutRange(65..66), PutRangeEvicting(96..97, 66),
+            Get(67, Some(67)), PutRangeEvicting(97..98, 68), PutRange(1..32), Expect(Len(64)),
+            Expect(Slots(128)) } },
     Story { name: "a cache without slots has its size from the next pair on",
         hasher: ScriptHash::Spread, made: Within(0, 256), steps: steps! {
-            Resizes(200), Slots(256), Len(0), Fills(0, 32), Slots(256), Clears, Slots(0),
-            Fills(0, 32), Slots(256), Resizes(0), Slots(64), Len(32) } },
+            Resize(200), Expect(Slots(256)), Expect(Len(0)), PutRange(0..32), Expect(Slots(256)),
+            Clear, Expect(Slots(0)), PutRange(0..32), Expect(Slots(256)), Resize(0),
+            Expect(Slots(64)), Expect(Len(32)) } },
     Story { name: "a lent value is touched by get_mut alone", hasher: ScriptHash::Zero,
         made: Within(0, 256), steps: steps! {
-            AddsAll(0, 32), Updates(0, 50, Some((0, 0))), Pokes(1, 51, Some(1)),
-            Writes(2, 52, Some(2)), Holds(0, Some(50)), Holds(1, Some(51)), Holds(2, Some(52)),
-            Adds(32, 1, Some((0, 50))), Adds(33, 1, Some((1, 51))), Adds(34, 1, Some((3, 3))),
-            Holds(2, Some(52)), Len(32) } },
+            UpsertRange(0..32), Write(ByUpdate(0, 50, Some((0, 0)))),
+            Write(ByPeekMut(1, 51, Some(1))), Write(ByGetMut(2, 52, Some(2))),
+            Expect(Value(0, Some(50))), Expect(Value(1, Some(51))), Expect(Value(2, Some(52))),
+            Upsert(32, 1, Some((0, 50))), Upsert(33, 1, Some((1, 51))), Upsert(34, 1, Some((3, 3))),
+            Expect(Value(2, Some(52))), Expect(Len(32)) } },
     Story { name: "a pair that is asked about isn't touched", hasher: ScriptHash::Zero,
         made: Within(0, 256), steps: steps! {
-            RemovesAbove(0, 0, None), AddsAll(0, 32), RemovesAbove(0, 0, None),
-            RemovesAbove(40, 0, None), Holds(0, Some(0)), Len(32), Adds(32, 1, Some((0, 0))),
-            RemovesAbove(1, 0, Some((1, 1))), RemovesAbove(1, 0, None), Holds(1, None), Len(31),
-            Adds(33, 1, None), Adds(34, 1, Some((2, 2))), Len(32) } },
+            RemoveIfAbove(0, 0, None), UpsertRange(0..32), RemoveIfAbove(0, 0, None),
+            RemoveIfAbove(40, 0, None), Expect(Value(0, Some(0))), Expect(Len(32)),
+            Upsert(32, 1, Some((0, 0))), RemoveIfAbove(1, 0, Some((1, 1))),
+            RemoveIfAbove(1, 0, None), Expect(Value(1, None)), Expect(Len(31)), Upsert(33, 1, None),
+            Upsert(34, 1, Some((2, 2))), Expect(Len(32)) } },
     Story { name: "where the key is absent nothing is written, and none is touched",
         hasher: ScriptHash::Zero, made: Within(0, 256), steps: steps! {
-            Updates(9, 1, None), Writes(9, 1, None), Pokes(9, 1, None), Len(0), AddsAll(0, 32),
-            Updates(40, 1, None), Writes(40, 1, None), Pokes(40, 1, None), Holds(40, None),
-            Adds(32, 1, Some((0, 0))), Len(32) } },
+            Write(ByUpdate(9, 1, None)), Write(ByGetMut(9, 1, None)), Write(ByPeekMut(9, 1, None)),
+            Expect(Len(0)), UpsertRange(0..32), Write(ByUpdate(40, 1, None)),
+            Write(ByGetMut(40, 1, None)), Write(ByPeekMut(40, 1, None)), Expect(Value(40, None)),
+            Upsert(32, 1, Some((0, 0))), Expect(Len(32)) } },
     Story { name: "an upsert adds once, and then it writes", hasher: ScriptHash::Id,
         made: Within(0, 256), steps: steps! {
-            Slots(0), Adds(1, 10, None), Slots(64), Replaces(1, 11, 10), Replaces(1, 12, 11),
-            Holds(1, Some(12)), Len(1), Removes(1, Some((1, 12))), Adds(1, 13, None), Len(1) } },
+            Expect(Slots(0)), Upsert(1, 10, None), Expect(Slots(64)), UpsertPresent(1, 11, 10),
+            UpsertPresent(1, 12, 11), Expect(Value(1, Some(12))), Expect(Len(1)),
+            Remove(1, Some((1, 12))), Upsert(1, 13, None), Expect(Len(1)) } },
     Story { name: "an upsert makes its pair the one touched last", hasher: ScriptHash::Zero,
         made: Within(0, 256), steps: steps! {
-            AddsAll(0, 32), Replaces(0, 50, 0), Adds(32, 1, Some((1, 1))), Replaces(32, 2, 1),
-            Replaces(2, 52, 2), Adds(33, 1, Some((3, 3))), Holds(0, Some(50)), Holds(2, Some(52)),
-            Holds(32, Some(2)), Len(32) } },
+            UpsertRange(0..32), UpsertPresent(0, 50, 0), Upsert(32, 1, Some((1, 1))),
+            UpsertPresent(32, 2, 1), UpsertPresent(2, 52, 2), Upsert(33, 1, Some((3, 3))),
+            Expect(Value(0, Some(50))), Expect(Value(2, Some(52))), Expect(Value(32, Some(2))),
+            Expect(Len(32)) } },
     Story { name: "a value is made where none is there, and its pair is touched",
         hasher: ScriptHash::Zero, made: Within(0, 256), steps: steps! {
-            Makes(0, 1000, None), Makes(0, 1000, None), Len(1), Removes(0, Some((0, 1000))),
-            AddsAll(0, 32), Makes(0, 0, None), Makes(32, 1032, Some((1, 1))), Makes(32, 1032, None),
-            Makes(2, 2, None), Makes(33, 1033, Some((3, 3))), Holds(0, Some(0)), Holds(2, Some(2)),
-            Holds(33, Some(1033)), Len(32) } },
+            GetOrInsert(0, 1000, None), GetOrInsert(0, 1000, None), Expect(Len(1)),
+            Remove(0, Some((0, 1000))), UpsertRange(0..32), GetOrInsert(0, 0, None),
+            GetOrInsert(32, 1032, Some((1, 1))), GetOrInsert(32, 1032, None),
+            GetOrInsert(2, 2, None), GetOrInsert(33, 1033, Some((3, 3))), Expect(Value(0, Some(0))),
+            Expect(Value(2, Some(2))), Expect(Value(33, Some(1033))), Expect(Len(32)) } },
     // The keys that are left are evicted in LRU order, once their bucket is full again.
     Story { name: "what is kept keeps its place in the order", hasher: ScriptHash::Zero,
         made: Within(0, 256), steps: steps! {
-            Retains, Len(0), AddsAll(0, 32), Writes(0, 50, Some(0)), Retains, Len(16),
-            Holds(1, None), Holds(0, Some(150)), Holds(30, Some(130)), AddsAll(41, 57), Len(32),
-            Adds(57, 1, Some((2, 102))), Adds(58, 1, Some((4, 104))), Replaces(6, 1, 106),
-            Adds(59, 1, Some((8, 108))), Len(32) } },
+            RetainEvenAndAdd100, Expect(Len(0)), UpsertRange(0..32),
+            Write(ByGetMut(0, 50, Some(0))), RetainEvenAndAdd100, Expect(Len(16)),
+            Expect(Value(1, None)), Expect(Value(0, Some(150))), Expect(Value(30, Some(130))),
+            UpsertRange(41..57), Expect(Len(32)), Upsert(57, 1, Some((2, 102))),
+            Upsert(58, 1, Some((4, 104))), UpsertPresent(6, 1, 106), Upsert(59, 1, Some((8, 108))),
+            Expect(Len(32)) } },
     Story { name: "a promoted pair is the one touched last", hasher: ScriptHash::Zero,
         made: Within(0, 256), steps: steps! {
-            Promotes(1, false), Fills(0, 4), Promotes(1, true), ByUse(&[1, 3, 2, 0]),
-            Promotes(9, false), ByUse(&[1, 3, 2, 0]), Removes(1, Some((1, 1))), Promotes(1, false),
-            Fills(4, 33), Promotes(0, true), Holds(0, Some(0)), Puts(33, 1, Some((2, 2))),
-            Len(32) } },
+            Promote(1, false), PutRange(0..4), Promote(1, true), Expect(ByUse(&[1, 3, 2, 0])),
+            Promote(9, false), Expect(ByUse(&[1, 3, 2, 0])), Remove(1, Some((1, 1))),
+            Promote(1, false), PutRange(4..33), Promote(0, true), Expect(Value(0, Some(0))),
+            Put(33, 1, Some((2, 2))), Expect(Len(32)) } },
     Story { name: "a pair is promoted amid a growth", hasher: ScriptHash::Spread,
         made: Within(0, 100), steps: steps! {
-            Fills(0, 31), Fills(128, 159), Slots(64), Fills(31, 32), Slots(128), Promotes(0, true),
-            Promotes(32, false), Puts(32, 320, Some((1, 1))), Holds(0, Some(0)), Len(63) } },
+            PutRange(0..31), PutRange(128..159), Expect(Slots(64)), PutRange(31..32),
+            Expect(Slots(128)), Promote(0, true), Promote(32, false), Put(32, 320, Some((1, 1))),
+            Expect(Value(0, Some(0))), Expect(Len(63)) } },
     // The keys are evicted in the order in which they were put.
     Story { name: "each value is written, and none is touched", hasher: ScriptHash::Zero,
         made: Within(0, 256), steps: steps! {
-            Raises, Len(0), AddsAll(0, 32), Raises, Len(32), Holds(0, Some(100)),
-            Holds(31, Some(131)), Adds(32, 1, Some((0, 100))), Raises, Holds(32, Some(101)),
-            Adds(33, 1, Some((1, 201))), Len(32) } },
+            Write(Add100ToAll), Expect(Len(0)), UpsertRange(0..32), Write(Add100ToAll),
+            Expect(Len(32)), Expect(Value(0, Some(100))), Expect(Value(31, Some(131))),
+            Upsert(32, 1, Some((0, 100))), Write(Add100ToAll), Expect(Value(32, Some(101))),
+            Upsert(33, 1, Some((1, 201))), Expect(Len(32)) } },
     Story { name: "values amid a growth are those of the pairs where they are",
         hasher: ScriptHash::Spread, made: Within(0, 100), steps: steps! {
-            AddsAll(0, 31), AddsAll(128, 159), Slots(64), Writes(0, 50, Some(0)),
-            Writes(128, 51, Some(128)), AddsAll(31, 32), Slots(128), Len(63),
-            Writes(1, 52, Some(1)), Updates(2, 53, Some((2, 2))), Pokes(150, 54, Some(150)),
-            Replaces(140, 55, 140), Adds(32, 1, Some((2, 53))), Replaces(3, 56, 3),
-            Adds(33, 1, Some((4, 4))), Holds(0, Some(50)), Holds(1, Some(52)), Holds(3, Some(56)),
-            Holds(128, Some(51)), Holds(140, Some(55)), Holds(150, Some(54)), Len(63), Retains,
-            Len(31), Holds(0, Some(150)), Holds(128, Some(151)), Holds(129, None), Slots(128) } }
+            UpsertRange(0..31), UpsertRange(128..159), Expect(Slots(64)),
+            Write(ByGetMut(0, 50, Some(0))), Write(ByGetMut(128, 51, Some(128))),
+            UpsertRange(31..32), Expect(Slots(128)), Expect(Len(63)),
+            Write(ByGetMut(1, 52, Some(1))), Write(ByUpdate(2, 53, Some((2, 2)))),
+            Write(ByPeekMut(150, 54, Some(150))), UpsertPresent(140, 55, 140),
+            Upsert(32, 1, Some((2, 53))), UpsertPresent(3, 56, 3), Upsert(33, 1, Some((4, 4))),
+            Expect(Value(0, Some(50))), Expect(Value(1, Some(52))), Expect(Value(3, Some(56))),
+            Expect(Value(128, Some(51))), Expect(Value(140, Some(55))),
+            Expect(Value(150, Some(54))), Expect(Len(63)), RetainEvenAndAdd100, Expect(Len(31)),
+            Expect(Value(0, Some(150))), Expect(Value(128, Some(151))), Expect(Value(129, None)),
+            Expect(Slots(128)) } }
 };

@@ -13,7 +13,7 @@ use std::test::Fail;
 #[test]
 fn a_change_of_a_set_leaves_its_copy(rt: HostRuntime) -> Result<(), Fail> {
     let mut set: Set = HashSet::with_hasher(rt.alloc(), ScriptHash::Id);
-    check_same(&rt, fill_set(&mut set, 0, 100), true, "filled");
+    check_same(&rt, fill_set(&mut set, &(0..100)), true, "filled");
     match set.try_copy(rt.alloc()) {
         Ok(copy) => check_same(&rt, copy == set, true, "keys are copied"),
         Err(_) => check_same(&rt, true, false, "no memory"),

@@ -2,11 +2,12 @@
 //! left of the collection; and values that are counted, of which some are returned.
 ghost use Rattle.std.specs.Iterator.{IsFinite};
 
-use super::caches::{Cache, put, put_all};
+use super::caches::{Cache, put, put_range};
+use super::check_same;
+use super::maps::Expect::*;
 use super::maps::Step::*;
-use super::maps::{Map, Story, fill};
+use super::maps::{Map, Story, map_of};
 use super::two_sets::{Ranges, check_listed, set_of};
-use super::{check_same, steps};
 use bucket_table::script::ScriptHash;
 use collections::hash_cache::HashCache;
 use collections::hash_map::{Drain, HashMap, IntoIter};
@@ -14,6 +15,7 @@ use std::alloc::{AllocError, Global};
 use std::process::Abort;
 use std::rc::Rc;
 use std::test::Fail;
+use test_helpers::steps;
 
 /// The keys of a collection, each its own value, in the order of their insertion, and sorted.
 struct Row {
@@ -27,12 +29,12 @@ struct Row {
 // Under the hash 0 all keys are in one bucket, and those past the first 32 in its chain.
 const ROWS: &[Row] = steps! {
     Row { name: "none", hasher: ScriptHash::Spread, keys: &[], in_order: &[] },
-    Row { name: "one", hasher: ScriptHash::Id, keys: &[(7, 8)], in_order: &[(7, 8)] },
-    Row { name: "a few", hasher: ScriptHash::Spread, keys: &[(200, 204), (1, 3)],
-        in_order: &[(1, 3), (200, 204)] },
-    Row { name: "two arrays", hasher: ScriptHash::Spread, keys: &[(0, 31), (128, 159), (31, 32)],
-        in_order: &[(0, 32), (128, 159)] },
-    Row { name: "a chain", hasher: ScriptHash::Zero, keys: &[(0, 100)], in_order: &[(0, 100)] }
+    Row { name: "one", hasher: ScriptHash::Id, keys: &[7..8], in_order: &[7..8] },
+    Row { name: "a few", hasher: ScriptHash::Spread, keys: &[200..204, 1..3],
+        in_order: &[1..3, 200..204] },
+    Row { name: "two arrays", hasher: ScriptHash::Spread, keys: &[0..31, 128..159, 31..32],
+        in_order: &[0..32, 128..159] },
+    Row { name: "a chain", hasher: ScriptHash::Zero, keys: &[0..100], in_order: &[0..100] }
 };
 
 /// A way to take the pairs of a map by value.
@@ -48,7 +50,7 @@ enum Way {
 fn pairs_come_by_value(rt: HostRuntime) -> Result<(), Fail> {
     for row in ROWS {
         for way in [Way::Drain, Way::IntoIter, Way::IntoKeys, Way::IntoValues] {
-            let found = taken(rt.alloc(), map_of(rt.alloc(), row), way)?;
+            let found = taken(rt.alloc(), map_of(rt.alloc(), row.hasher, row.keys), way)?;
             check_listed(&rt, rt.alloc(), found, row.in_order, (row.name, way));
         }
     }
@@ -81,15 +83,6 @@ fn met<I: Iterator<Item = u64> + Drop>(alloc: Global, keys: I) -> Vec<u64>
     met
 }
 
-// A map of a row's keys, each its own value.
-fn map_of(alloc: Global, row: &Row) -> Map {
-    let mut map = HashMap::with_hasher(alloc, row.hasher);
-    for (from, to) in row.keys {
-        let _ = fill(&mut map, *from, *to);
-    }
-    map
-}
-
 // The keys, or the values, of a map by value.
 fn taken(alloc: Global, mut map: Map, way: Way) -> Result<Vec<u64>, AllocError> {
     match way {
@@ -115,18 +108,21 @@ fn keys_of(alloc: Global, pairs: IntoIter<u64, u64>) -> Vec<u64> {
 pub(super) const STORIES: &[Story] = steps! {
     Story { name: "a map takes pairs after a drain", hasher: ScriptHash::Spread, minimum: 0,
         steps: steps! {
-            Leaves(0), Len(0), Slots(0), Fills(1, 3), Len(2), Slots(64), Leaves(2), Len(0),
-            Slots(0), Holds(1, None), Fills(1, 2), Holds(1, Some(1)), Len(1), Slots(64), Leaves(0),
-            Len(0), Slots(0), Fills(0, 31), Fills(128, 159), Fills(31, 32), Len(63), Slots(128),
-            Leaves(40), Len(0), Slots(0), Holds(31, None), Holds(158, None), Fills(0, 31), Len(31),
-            Slots(64), Fills(128, 159), Fills(31, 32), Len(63), Slots(128), Holds(158, Some(158)),
-            Leaves(63), Len(0), Slots(0) } }
+            DrainPart(0), Expect(Len(0)), Expect(Slots(0)), InsertRange(1..3), Expect(Len(2)),
+            Expect(Slots(64)), DrainPart(2), Expect(Len(0)), Expect(Slots(0)),
+            Expect(Value(1, None)), InsertRange(1..2), Expect(Value(1, Some(1))), Expect(Len(1)),
+            Expect(Slots(64)), DrainPart(0), Expect(Len(0)), Expect(Slots(0)), InsertRange(0..31),
+            InsertRange(128..159), InsertRange(31..32), Expect(Len(63)), Expect(Slots(128)),
+            DrainPart(40), Expect(Len(0)), Expect(Slots(0)), Expect(Value(31, None)),
+            Expect(Value(158, None)), InsertRange(0..31), Expect(Len(31)), Expect(Slots(64)),
+            InsertRange(128..159), InsertRange(31..32), Expect(Len(63)), Expect(Slots(128)),
+            Expect(Value(158, Some(158))), DrainPart(63), Expect(Len(0)), Expect(Slots(0)) } }
 };
 
 #[test]
 fn a_cache_is_drained_and_takes_pairs_again(rt: HostRuntime) -> Result<(), Fail> {
     let mut cache: Cache = HashCache::with_capacity(rt.alloc(), ScriptHash::Zero, 0, 256);
-    check_same(&rt, put_all(&mut cache, 0, 32), true, "put");
+    check_same(&rt, put_range(&mut cache, &(0..32)), true, "put");
     check_same(
         &rt,
         put(&mut cache, 32, 320),
@@ -134,7 +130,7 @@ fn a_cache_is_drained_and_takes_pairs_again(rt: HostRuntime) -> Result<(), Fail>
         "evicted",
     );
     let found = met(rt.alloc(), cache.drain().map(key_of));
-    check_listed(&rt, rt.alloc(), found, &[(1, 33)], "drained");
+    check_listed(&rt, rt.alloc(), found, &[1..33], "drained");
     check_same(&rt, (cache.len(), cache.capacity()), (0, 0), "left");
     check_same(&rt, put(&mut cache, 0, 5), Some(Ok(None)), "put");
     let found = (cache.len(), cache.get(&0).copied());

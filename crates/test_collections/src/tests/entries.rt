@@ -1,33 +1,40 @@
 //! Stories of entries: the place of a key, occupied or vacant.
 use super::maps::Map;
-use super::{At, check_same, std_entries, steps};
+use super::{check_same, std_entries};
+use Expect::*;
 use Step::*;
 use bucket_table::script::ScriptHash;
 use collections::hash_map::HashMap;
 use collections::hash_map::entry::Entry;
 use std::alloc::Global;
+use std::ops::Range;
 use std::process::Abort;
 use std::test::Fail;
+use test_helpers::{At, steps};
 
 /// What is done at a key's place, or what is seen of the map.
 pub(super) enum Step {
-    /// Keys are inserted by vacant entries, each as its own value.
-    Fills(u64, u64),
-    /// A value is inserted if the key is absent, and then one is added to the value: this is the
-    /// result.
-    Counts(u64, u64, u64),
-    /// The value is doubled, or the second number is inserted: this is the value then.
-    Doubles(u64, u64, u64),
-    /// Twice the key is inserted if the key is absent: this is the value then.
-    Makes(u64, u64),
-    /// The value of a present key is changed, and this was the earlier one.
-    Writes(u64, u64, Option<u64>),
-    /// The key of the place, vacant or occupied.
-    Keys(u64),
-    /// The pair that is removed.
-    Takes(u64, Option<(u64, u64)>),
+    /// Insert keys by vacant entries, each as its own value.
+    InsertRange(Range<u64>),
+    /// Insert a value if the key is absent, and then add one to the value: this is the result.
+    InsertAndAddOne(u64, u64, u64),
+    /// Double the value, or insert the second number: this is the value then.
+    DoubleOrInsert(u64, u64, u64),
+    /// Insert twice the key if the key is absent: this is the value then.
+    OrInsertWithKey(u64, u64),
+    /// Change the value of a present key: this was the earlier one.
+    Replace(u64, u64, Option<u64>),
+    /// Remove a key: this was its pair, or it is absent.
+    Remove(u64, Option<(u64, u64)>),
+    Expect(Expect),
+}
+
+/// What is expected of a map.
+pub(super) enum Expect {
+    /// The key of its place, vacant or occupied.
+    Key(u64),
     /// The value that a key has.
-    Holds(u64, Option<u64>),
+    Value(u64, Option<u64>),
     /// How many pairs there are.
     Len(usize),
 }
@@ -42,27 +49,29 @@ pub(super) struct Story {
 const STORIES: &[Story] = steps! {
     Story { name: "a value is put once, and then it is the one that is lent",
         hasher: ScriptHash::Id, steps: steps! {
-            Counts(1, 10, 11), Counts(1, 10, 12), Counts(2, 0, 1), Holds(1, Some(12)),
-            Holds(2, Some(1)), Len(2) } },
+            InsertAndAddOne(1, 10, 11), InsertAndAddOne(1, 10, 12), InsertAndAddOne(2, 0, 1),
+            Expect(Value(1, Some(12))), Expect(Value(2, Some(1))), Expect(Len(2)) } },
     Story { name: "what is there is modified, and what isn't is put",
         hasher: ScriptHash::Id, steps: steps! {
-            Doubles(3, 5, 5), Doubles(3, 6, 10), Doubles(3, 7, 20), Doubles(4, 8, 8),
-            Makes(3, 20), Makes(5, 10), Holds(3, Some(20)), Len(3) } },
+            DoubleOrInsert(3, 5, 5), DoubleOrInsert(3, 6, 10), DoubleOrInsert(3, 7, 20),
+            DoubleOrInsert(4, 8, 8), OrInsertWithKey(3, 20), OrInsertWithKey(5, 10),
+            Expect(Value(3, Some(20))), Expect(Len(3)) } },
     Story { name: "an occupied place is written and taken, a vacant one stays",
         hasher: ScriptHash::Id, steps: steps! {
-            Writes(1, 10, None), Takes(1, None), Len(0), Counts(1, 4, 5), Writes(1, 10, Some(5)),
-            Writes(1, 11, Some(10)), Takes(1, Some((1, 11))), Takes(1, None), Holds(1, None),
-            Len(0) } },
+            Replace(1, 10, None), Remove(1, None), Expect(Len(0)), InsertAndAddOne(1, 4, 5),
+            Replace(1, 10, Some(5)), Replace(1, 11, Some(10)), Remove(1, Some((1, 11))),
+            Remove(1, None), Expect(Value(1, None)), Expect(Len(0)) } },
     Story { name: "places amid a growth are those of the pairs where they are",
         hasher: ScriptHash::Spread, steps: steps! {
-            Fills(0, 31), Fills(128, 159), Fills(31, 32), Len(63), Counts(5, 0, 6),
-            Counts(158, 0, 159), Writes(130, 1, Some(130)), Takes(7, Some((7, 7))),
-            Doubles(40, 9, 9), Holds(4, Some(4)), Holds(5, Some(6)), Holds(130, Some(1)),
-            Len(63) } },
+            InsertRange(0..31), InsertRange(128..159), InsertRange(31..32), Expect(Len(63)),
+            InsertAndAddOne(5, 0, 6), InsertAndAddOne(158, 0, 159), Replace(130, 1, Some(130)),
+            Remove(7, Some((7, 7))), DoubleOrInsert(40, 9, 9), Expect(Value(4, Some(4))),
+            Expect(Value(5, Some(6))), Expect(Value(130, Some(1))), Expect(Len(63)) } },
     Story { name: "keys of one hash have places of their own",
         hasher: ScriptHash::Zero, steps: steps! {
-            Fills(0, 80), Counts(79, 0, 80), Counts(80, 0, 1), Takes(40, Some((40, 40))),
-            Counts(40, 3, 4), Holds(79, Some(80)), Holds(41, Some(41)), Len(81) } },
+            InsertRange(0..80), InsertAndAddOne(79, 0, 80), InsertAndAddOne(80, 0, 1),
+            Remove(40, Some((40, 40))), InsertAndAddOne(40, 3, 4), Expect(Value(79, Some(80))),
+            Expect(Value(41, Some(41))), Expect(Len(81)) } },
 };
 
 #[test]
@@ -83,33 +92,36 @@ fn play(rt: &impl Abort, alloc: Global, stories: &[Story]) {
     }
 }
 
-// Takes a step at a place that may be vacant, and compares its result.
+// Takes a step, and compares its result.
 fn take(rt: &impl Abort, map: &mut Map, at: At, step: &Step) {
-    match *step {
-        Fills(from, to) => check_same(rt, fill_vacant(map, from, to), true, at),
-        Counts(key, value, after) => check_same(rt, count(map, key, value), Some(after), at),
-        Doubles(key, value, after) => check_same(rt, double(map, key, value), Some(after), at),
-        Makes(key, after) => check_same(rt, make(map, key), Some(after), at),
-        _ => look(rt, map, at, step),
+    match step {
+        InsertRange(keys) => check_same(rt, insert_range(map, keys), true, at),
+        InsertAndAddOne(key, value, after) => {
+            check_same(rt, count(map, *key, *value), Some(*after), at);
+        }
+        DoubleOrInsert(key, value, after) => {
+            check_same(rt, double(map, *key, *value), Some(*after), at);
+        }
+        OrInsertWithKey(key, after) => check_same(rt, make(map, *key), Some(*after), at),
+        Replace(key, value, earlier) => check_same(rt, write(map, *key, *value), *earlier, at),
+        Remove(key, pair) => check_same(rt, take_out(map, *key), *pair, at),
+        Expect(wanted) => check_expected(rt, map, at, wanted),
     }
 }
 
-// Takes a step at a place that is to be occupied, or looks.
-fn look(rt: &impl Abort, map: &mut Map, at: At, step: &Step) {
-    match *step {
-        Writes(key, value, earlier) => check_same(rt, write(map, key, value), earlier, at),
-        Keys(key) => check_same(rt, *map.entry(key).key(), key, at),
-        Takes(key, pair) => check_same(rt, take_out(map, key), pair, at),
-        Holds(key, value) => check_same(rt, map.get(&key).copied(), value, at),
+// Compares what is seen of a map.
+fn check_expected(rt: &impl Abort, map: &mut Map, at: At, wanted: &Expect) {
+    match *wanted {
+        Key(key) => check_same(rt, *map.entry(key).key(), key, at),
+        Value(key, value) => check_same(rt, map.get(&key).copied(), value, at),
         Len(pairs) => check_same(rt, (map.len(), has_its_keys(map)), (pairs, true), at),
-        _ => check_same(rt, true, false, (at, "no step")),
     }
 }
 
-// Puts keys, each as its own value. Whether the place of each was vacant, and it was inserted.
-fn fill_vacant(map: &mut Map, from: u64, to: u64) -> bool {
+// Inserts keys, each as its own value. Whether the place of each was vacant, and it was inserted.
+fn insert_range(map: &mut Map, keys: &Range<u64>) -> bool {
     let mut are_in = true;
-    for key in from..to {
+    for key in keys.start..keys.end {
         are_in = put_where_vacant(map, key) && are_in;
     }
     are_in

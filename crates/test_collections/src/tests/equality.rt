@@ -1,10 +1,10 @@
 //! Which maps, sets, indexes and caches are equal: neither the order of insertion nor the hasher
 //! counts, nor do tombstones and the LRU order.
 use super::caches::Cache;
+use super::check_same;
 use super::indexes::Index;
 use super::maps::Map;
 use super::sets::Set;
-use super::{check_same, steps};
 use bucket_table::script::ScriptHash;
 use collections::hash_cache::HashCache;
 use collections::hash_index::HashIndex;
@@ -14,6 +14,7 @@ use std::alloc::Global;
 use std::fmt::Debug;
 use std::process::Abort;
 use std::test::Fail;
+use test_helpers::steps;
 
 type Pairs = &'static [(u64, u64)];
 

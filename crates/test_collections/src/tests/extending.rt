@@ -1,52 +1,56 @@
 //! Pairs of an iterator that are inserted into a map, and their keys into a set, before, during and
 //! after a growth. And a map and a set that are made of them.
+use super::check_same;
 use super::maps::Map;
 use super::sets::Set;
-use super::{At, check_same, steps};
 use Step::*;
 use bucket_table::script::ScriptHash;
 use collections::hash_map::HashMap;
 use collections::hash_set::HashSet;
 use std::alloc::Global;
+use std::ops::Range;
 use std::process::Abort;
 use std::test::Fail;
+use test_helpers::{At, steps};
 
 /// What is inserted into a map and a set, or what they have then.
 enum Step {
-    /// These pairs are inserted.
-    Comes(&'static [(u64, u64)]),
-    /// Keys are inserted, each as its own value. The second number is the first key that is not
-    /// meant.
-    Fills(u64, u64),
-    /// The value that a key has.
-    Holds(u64, Option<u64>),
-    /// How many pairs and slots there are.
-    Sees(usize, usize),
+    /// Insert these pairs.
+    ExtendBy(&'static [(u64, u64)]),
+    /// Insert keys, each as its own value.
+    ExtendByRange(Range<u64>),
+    /// Expect a key to have this value.
+    ExpectValue(u64, Option<u64>),
+    /// Expect so many pairs and slots.
+    ExpectCounts(usize, usize),
 }
 
 // Of two buckets the first has the keys below 128. It has 31 pairs when key 31 is inserted, and
 // both grow.
 const STEPS: &[Step] = steps! {
-    Comes(&[]), Sees(0, 0), Comes(&[(1, 10)]), Sees(1, 64), Holds(1, Some(10)), Holds(2, None),
-    Comes(&[(2, 20), (1, 11), (3, 30), (1, 12)]), Sees(3, 64), Holds(1, Some(12)),
-    Holds(2, Some(20)), Holds(3, Some(30)), Comes(&[]), Sees(3, 64), Fills(0, 31), Sees(31, 64),
-    Holds(1, Some(1)), Holds(30, Some(30)), Fills(128, 159), Sees(62, 64), Comes(&[(31, 310)]),
-    Sees(63, 128), Holds(31, Some(310)), Holds(0, Some(0)), Holds(158, Some(158)),
-    Comes(&[(130, 1), (7, 70), (7, 71)]), Holds(130, Some(1)), Holds(7, Some(71)),
-    Fills(192, 200), Sees(71, 128), Holds(199, Some(199)), Holds(200, None), Holds(6, Some(6))
+    ExtendBy(&[]), ExpectCounts(0, 0), ExtendBy(&[(1, 10)]), ExpectCounts(1, 64),
+    ExpectValue(1, Some(10)), ExpectValue(2, None), ExtendBy(&[(2, 20), (1, 11), (3, 30), (1, 12)]),
+    ExpectCounts(3, 64), ExpectValue(1, Some(12)), ExpectValue(2, Some(20)),
+    ExpectValue(3, Some(30)), ExtendBy(&[]), ExpectCounts(3, 64), ExtendByRange(0..31),
+    ExpectCounts(31, 64), ExpectValue(1, Some(1)), ExpectValue(30, Some(30)),
+    ExtendByRange(128..159), ExpectCounts(62, 64), ExtendBy(&[(31, 310)]), ExpectCounts(63, 128),
+    ExpectValue(31, Some(310)), ExpectValue(0, Some(0)), ExpectValue(158, Some(158)),
+    ExtendBy(&[(130, 1), (7, 70), (7, 71)]), ExpectValue(130, Some(1)), ExpectValue(7, Some(71)),
+    ExtendByRange(192..200), ExpectCounts(71, 128), ExpectValue(199, Some(199)),
+    ExpectValue(200, None), ExpectValue(6, Some(6))
 };
 
 // What test_from_iter of the standard library's map checks.
 const COLLECTED: &[Step] = steps! {
-    Comes(&[(1, 1), (2, 2), (2, 2), (3, 3), (4, 4), (5, 5), (6, 6)]), Sees(6, 64),
-    Holds(1, Some(1)), Holds(2, Some(2)), Holds(3, Some(3)), Holds(4, Some(4)), Holds(5, Some(5)),
-    Holds(6, Some(6))
+    ExtendBy(&[(1, 1), (2, 2), (2, 2), (3, 3), (4, 4), (5, 5), (6, 6)]), ExpectCounts(6, 64),
+    ExpectValue(1, Some(1)), ExpectValue(2, Some(2)), ExpectValue(3, Some(3)),
+    ExpectValue(4, Some(4)), ExpectValue(5, Some(5)), ExpectValue(6, Some(6))
 };
 
 // What test_extend_ref of the standard library's map checks.
 const EXTENDED: &[Step] = steps! {
-    Comes(&[(1, 10)]), Comes(&[(2, 20), (3, 30)]), Sees(3, 64), Holds(1, Some(10)),
-    Holds(2, Some(20)), Holds(3, Some(30))
+    ExtendBy(&[(1, 10)]), ExtendBy(&[(2, 20), (3, 30)]), ExpectCounts(3, 64),
+    ExpectValue(1, Some(10)), ExpectValue(2, Some(20)), ExpectValue(3, Some(30))
 };
 
 #[test]
@@ -69,21 +73,23 @@ fn play(rt: &impl Abort, alloc: Global, steps: &[Step]) {
 // Takes a step, and compares its result.
 fn take(rt: &impl Abort, map: &mut Map, set: &mut Set, at: At, step: &Step) {
     match step {
-        Comes(pairs) => check_same(rt, come(map, set, pairs), (true, true), at),
-        Fills(from, to) => check_same(rt, come_from(map, set, *from, *to), (true, true), at),
-        Holds(key, value) => {
+        ExtendBy(pairs) => check_same(rt, extend_by(map, set, pairs), (true, true), at),
+        ExtendByRange(keys) => {
+            check_same(rt, extend_by_range(map, set, keys), (true, true), at);
+        }
+        ExpectValue(key, value) => {
             let found = (map.get(key).copied(), set.contains(key));
             check_same(rt, found, (*value, value.is_some()), at);
         }
-        Sees(pairs, slots) => {
+        ExpectCounts(pairs, slots) => {
             let found = (map.len(), map.capacity(), set.len(), set.capacity());
             check_same(rt, found, (*pairs, *slots, *pairs, *slots), at);
         }
     }
 }
 
-// Pairs are inserted into a map, and their keys into a set. Whether all were inserted.
-fn come(map: &mut Map, set: &mut Set, pairs: &[(u64, u64)]) -> (bool, bool) {
+// Inserts pairs into a map, and their keys into a set. Whether all were inserted.
+fn extend_by(map: &mut Map, set: &mut Set, pairs: &[(u64, u64)]) -> (bool, bool) {
     let mut keys = pairs.iter().map(key_of);
     let is_in = map.try_extend(&mut pairs.iter().copied()).is_ok();
     (is_in, set.try_extend(&mut keys).is_ok())
@@ -93,8 +99,9 @@ fn key_of(pair: &(u64, u64)) -> u64 {
     pair.0
 }
 
-// Keys are inserted into a map, each as its own value, and into a set. Whether all were inserted.
-fn come_from(map: &mut Map, set: &mut Set, from: u64, to: u64) -> (bool, bool) {
+// Inserts keys into a map, each as its own value, and into a set. Whether all were inserted.
+fn extend_by_range(map: &mut Map, set: &mut Set, keys: &Range<u64>) -> (bool, bool) {
+    let (from, to) = (keys.start, keys.end);
     let is_in = map.try_extend(&mut (from..to).zip(from..to)).is_ok();
     (is_in, set.try_extend(&mut (from..to)).is_ok())
 }

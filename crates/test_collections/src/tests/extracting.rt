@@ -1,14 +1,15 @@
 //! Iterators that remove the pairs or keys that a function picks: which are removed, with which
 //! values, and which stay, if the iterator reaches its end or is dropped before; of one array, of
 //! two, and of a chain.
-use super::maps::{Map, fill};
+use super::check_same;
+use super::maps::{Map, fill, map_of};
 use super::two_sets::{Ranges, check_listed, set_of};
-use super::{check_same, steps};
 use bucket_table::script::ScriptHash;
 use collections::hash_map::HashMap;
 use std::alloc::Global;
 use std::process::Abort;
 use std::test::Fail;
+use test_helpers::steps;
 
 /// The keys of a collection, each its own value; those are picked that leave the second number,
 /// divided by the first.
@@ -27,28 +28,28 @@ struct Row {
 // all keys are in one bucket, and those past the first 32 in its chain.
 const ROWS: &[Row] = steps! {
     Row { name: "empty", hasher: ScriptHash::Id, keys: &[], picks: (1, 0), gone: &[], left: &[] },
-    Row { name: "none is picked", hasher: ScriptHash::Spread, keys: &[(0, 3)], picks: (9, 8),
-        gone: &[], left: &[(0, 3)] },
-    Row { name: "all are picked", hasher: ScriptHash::Spread, keys: &[(0, 3)], picks: (1, 0),
-        gone: &[(0, 3)], left: &[] },
-    Row { name: "the even ones", hasher: ScriptHash::Spread, keys: &[(0, 6)], picks: (2, 0),
-        gone: &[(0, 1), (2, 3), (4, 5)], left: &[(1, 2), (3, 4), (5, 6)] },
+    Row { name: "none is picked", hasher: ScriptHash::Spread, keys: &[0..3], picks: (9, 8),
+        gone: &[], left: &[0..3] },
+    Row { name: "all are picked", hasher: ScriptHash::Spread, keys: &[0..3], picks: (1, 0),
+        gone: &[0..3], left: &[] },
+    Row { name: "the even ones", hasher: ScriptHash::Spread, keys: &[0..6], picks: (2, 0),
+        gone: &[0..1, 2..3, 4..5], left: &[1..2, 3..4, 5..6] },
     Row { name: "all of two arrays", hasher: ScriptHash::Spread,
-        keys: &[(0, 31), (128, 159), (31, 32)], picks: (1, 0), gone: &[(0, 32), (128, 159)],
+        keys: &[0..31, 128..159, 31..32], picks: (1, 0), gone: &[0..32, 128..159],
         left: &[] },
     Row { name: "one of each array", hasher: ScriptHash::Spread,
-        keys: &[(0, 31), (128, 159), (31, 32)], picks: (130, 5), gone: &[(5, 6), (135, 136)],
-        left: &[(0, 5), (6, 32), (128, 135), (136, 159)] },
-    Row { name: "the last ones of a chain", hasher: ScriptHash::Zero, keys: &[(0, 100)],
-        picks: (98, 1), gone: &[(1, 2), (99, 100)], left: &[(0, 1), (2, 99)] },
-    Row { name: "all of a chain", hasher: ScriptHash::Zero, keys: &[(0, 100)], picks: (1, 0),
-        gone: &[(0, 100)], left: &[] }
+        keys: &[0..31, 128..159, 31..32], picks: (130, 5), gone: &[5..6, 135..136],
+        left: &[0..5, 6..32, 128..135, 136..159] },
+    Row { name: "the last ones of a chain", hasher: ScriptHash::Zero, keys: &[0..100],
+        picks: (98, 1), gone: &[1..2, 99..100], left: &[0..1, 2..99] },
+    Row { name: "all of a chain", hasher: ScriptHash::Zero, keys: &[0..100], picks: (1, 0),
+        gone: &[0..100], left: &[] }
 };
 
 #[test]
 fn picked_keys_come_and_the_others_stay(rt: HostRuntime) -> Result<(), Fail> {
     for row in ROWS {
-        let mut map = map_of(rt.alloc(), row);
+        let mut map = map_of(rt.alloc(), row.hasher, row.keys);
         let slots = map.capacity();
         let found = taken(rt.alloc(), &mut map, row.picks, usize::MAX);
         check_listed(&rt, rt.alloc(), found, row.gone, (row.name, "gone"));
@@ -88,7 +89,9 @@ const TAKEN: [usize; 5] = [0, 1, 2, 31, 32];
 fn what_is_not_asked_for_stays_as_it_was(rt: HostRuntime) -> Result<(), Fail> {
     for count in TAKEN {
         let mut map: Map = HashMap::with_hasher(rt.alloc(), ScriptHash::Spread);
-        let are_in = fill(&mut map, 0, 31) && fill(&mut map, 128, 159) && fill(&mut map, 31, 32);
+        let are_in = fill(&mut map, &(0..31))
+            && fill(&mut map, &(128..159))
+            && fill(&mut map, &(31..32));
         check_same(&rt, are_in, true, count);
         let found = taken(rt.alloc(), &mut map, (2, 0), count);
         check_same(
@@ -99,18 +102,9 @@ fn what_is_not_asked_for_stays_as_it_was(rt: HostRuntime) -> Result<(), Fail> {
         );
         let (_, asked) = sorted_out(rt.alloc(), &map);
         check_same(&rt, asked <= count.saturating_add(1), true, (count, asked));
-        check_same(&rt, fill(&mut map, 1000, 1010), true, (count, "goes on"));
+        check_same(&rt, fill(&mut map, &(1000..1010)), true, (count, "goes on"));
     }
     Ok(())
-}
-
-// A map of a row's keys, each its own value.
-fn map_of(alloc: Global, row: &Row) -> Map {
-    let mut map = HashMap::with_hasher(alloc, row.hasher);
-    for (from, to) in row.keys {
-        let _ = fill(&mut map, *from, *to);
-    }
-    map
 }
 
 // Whether a number leaves a rest.

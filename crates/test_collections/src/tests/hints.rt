@@ -1,14 +1,15 @@
 //! How many items an iterator says that it has left: at the start, after a step, and at its end.
 //! And the room that an extension makes by what its iterator says.
-use super::maps::{Map, fill};
+use super::check_same;
+use super::maps::map_of;
 use super::two_sets::{Ranges, set_of};
-use super::{check_same, steps};
 use bucket_table::script::ScriptHash;
 use collections::hash_map::HashMap;
 use collections::hash_set::HashSet;
 use std::alloc::{AllocError, Global};
 use std::process::Abort;
 use std::test::Fail;
+use test_helpers::steps;
 
 /// The least and the greatest number of items that are left.
 type Hint = (usize, Option<usize>);
@@ -28,10 +29,10 @@ struct Row {
 // Under the hash 0 all keys are in one bucket, and those past the first 32 in its chain.
 const ROWS: &[Row] = steps! {
     Row { name: "empty", hasher: ScriptHash::Spread, keys: &[], len: 0 },
-    Row { name: "one", hasher: ScriptHash::Spread, keys: &[(5, 6)], len: 1 },
-    Row { name: "two arrays", hasher: ScriptHash::Spread, keys: &[(0, 31), (128, 159), (31, 32)],
+    Row { name: "one", hasher: ScriptHash::Spread, keys: &[5..6], len: 1 },
+    Row { name: "two arrays", hasher: ScriptHash::Spread, keys: &[0..31, 128..159, 31..32],
         len: 63 },
-    Row { name: "a chain", hasher: ScriptHash::Zero, keys: &[(0, 100)], len: 100 }
+    Row { name: "a chain", hasher: ScriptHash::Zero, keys: &[0..100], len: 100 }
 };
 
 // What an iterator says.
@@ -66,19 +67,10 @@ fn tried(items: usize, are_all_returned: bool) -> Hints {
     ((0, Some(items)), (0, Some(left)), (0, Some(0)))
 }
 
-// A map of a row's keys, each its own value.
-fn map_of(alloc: Global, row: &Row) -> Map {
-    let mut map = HashMap::with_hasher(alloc, row.hasher);
-    for (from, to) in row.keys {
-        let _ = fill(&mut map, *from, *to);
-    }
-    map
-}
-
 #[test]
 fn iterators_over_a_map_count_what_is_left(rt: HostRuntime) -> Result<(), Fail> {
     for row in ROWS {
-        let map = map_of(rt.alloc(), row);
+        let map = map_of(rt.alloc(), row.hasher, row.keys);
         let wanted = counted(row.len);
         check_same(&rt, hints!(map.iter()), wanted, (row.name, "iter"));
         check_same(&rt, hints!(map.keys()), wanted, (row.name, "keys"));
@@ -91,7 +83,7 @@ fn iterators_over_a_map_count_what_is_left(rt: HostRuntime) -> Result<(), Fail> 
 fn iterators_by_value_count_what_is_left(rt: HostRuntime) -> Result<(), Fail> {
     for row in ROWS {
         let wanted = counted(row.len);
-        let mut drained = map_of(rt.alloc(), row);
+        let mut drained = map_of(rt.alloc(), row.hasher, row.keys);
         check_same(&rt, hints!(drained.drain()), wanted, (row.name, "drain"));
         check_same(
             &rt,
@@ -99,11 +91,11 @@ fn iterators_by_value_count_what_is_left(rt: HostRuntime) -> Result<(), Fail> {
             counted(0),
             (row.name, "again"),
         );
-        let pairs = map_of(rt.alloc(), row).into_iter();
+        let pairs = map_of(rt.alloc(), row.hasher, row.keys).into_iter();
         check_same(&rt, hints!(pairs), wanted, (row.name, "into_iter"));
-        let keys = map_of(rt.alloc(), row).into_keys();
+        let keys = map_of(rt.alloc(), row.hasher, row.keys).into_keys();
         check_same(&rt, hints!(keys), wanted, (row.name, "into_keys"));
-        let values = map_of(rt.alloc(), row).into_values();
+        let values = map_of(rt.alloc(), row.hasher, row.keys).into_values();
         check_same(&rt, hints!(values), wanted, (row.name, "into_values"));
     }
     Ok(())
@@ -129,7 +121,7 @@ const PICKS: [bool; 2] = [true, false];
 fn an_extraction_bounds_what_is_left_to_try(rt: HostRuntime) -> Result<(), Fail> {
     for row in ROWS {
         for picks in PICKS {
-            let mut map = map_of(rt.alloc(), row);
+            let mut map = map_of(rt.alloc(), row.hasher, row.keys);
             let wanted = tried(row.len, picks);
             let found = hints!(map.extract_if(move |_key: &u64, _value: &mut u64| picks));
             check_same(&rt, found, wanted, (row.name, "map", picks));
@@ -151,11 +143,11 @@ struct Pair {
 
 const PAIRS: &[Pair] = steps! {
     Pair { one: &[], other: &[], lens: (0, 0), are_same: true },
-    Pair { one: &[(1, 6)], other: &[(1, 6)], lens: (5, 5), are_same: true },
-    Pair { one: &[(1, 6)], other: &[], lens: (5, 0), are_same: false },
-    Pair { one: &[], other: &[(1, 6)], lens: (0, 5), are_same: false },
-    Pair { one: &[(1, 6)], other: &[(6, 9)], lens: (5, 3), are_same: false },
-    Pair { one: &[(0, 31), (128, 159), (31, 32)], other: &[(200, 240)], lens: (63, 40),
+    Pair { one: &[1..6], other: &[1..6], lens: (5, 5), are_same: true },
+    Pair { one: &[1..6], other: &[], lens: (5, 0), are_same: false },
+    Pair { one: &[], other: &[1..6], lens: (0, 5), are_same: false },
+    Pair { one: &[1..6], other: &[6..9], lens: (5, 3), are_same: false },
+    Pair { one: &[0..31, 128..159, 31..32], other: &[200..240], lens: (63, 40),
         are_same: false }
 };
 

@@ -1,43 +1,56 @@
 //! Stories of an index of numbers: what each call returns, and which pairs are seen then.
 use super::iterating::{MOST_BUCKETS, Pairs, gone_over, same_pairs, walk_numbers, walk_pairs};
-use super::{At, check_same, pair_with, steps};
+use super::{check_same, pair_with};
+use Expect::*;
+use Resize::*;
 use Step::*;
 use bucket_table::script::ScriptHash;
 use collections::hash_index::HashIndex;
 use collections::hash_map::NotInserted;
 use std::alloc::Global;
+use std::ops::Range;
 use std::process::Abort;
 use std::test::Fail;
+use test_helpers::{At, steps};
 
 pub(super) type Index = HashIndex<u64, u64, ScriptHash>;
 
-/// A call on an index with its result, or what is seen of the index. Of two keys the second is the
-/// first that is not meant.
+/// A call on an index with its result, or what is seen of the index.
 enum Step {
-    /// Keys are inserted, each as its own value.
-    Fills(u64, u64),
-    /// A pair is inserted.
-    Inserts(u64, u64),
-    /// A pair is returned, since its key is present.
-    Returns(u64, u64),
-    /// A pair is removed, if its key is present.
-    Removes(u64, bool),
-    /// The pair that `remove_with` passes to its function.
-    Reads(u64, Option<(u64, u64)>),
-    /// A pair is removed by `remove_if`, if its value is above the second number.
-    RemovesAbove(u64, u64, bool),
-    /// Keys are removed.
-    Drains(u64, u64),
-    /// The pairs with odd keys are removed.
-    Retains,
-    /// The minimum is to be raised by the first number, and is by the second.
-    Reserves(usize, usize),
-    /// The minimum is set to 0.
-    Shrinks,
-    /// All pairs are removed.
-    Clears,
+    /// Insert keys, each as its own value.
+    InsertRange(Range<u64>),
+    /// Insert a pair.
+    Insert(u64, u64),
+    /// Insert a pair, which is returned, since its key is present.
+    InsertPresent(u64, u64),
+    /// Remove a pair: whether its key was present.
+    Remove(u64, bool),
+    /// Remove a pair by `remove_with`, which passes this pair to its function.
+    RemoveWith(u64, Option<(u64, u64)>),
+    /// Remove a pair by `remove_if`, if its value is above the second number: whether it was.
+    RemoveIfAbove(u64, u64, bool),
+    /// Remove keys, which are present.
+    RemoveRange(Range<u64>),
+    /// Remove the pairs with odd keys.
+    RetainEven,
+    /// Remove all pairs.
+    Clear,
+    Resize(Resize),
+    Expect(Expect),
+}
+
+/// A call that sets the minimum.
+enum Resize {
+    /// Raise the minimum by the first number: it is raised by the second.
+    RaiseMinimum(usize, usize),
+    /// Set the minimum to 0.
+    ShrinkToFit,
+}
+
+/// What is expected of an index.
+enum Expect {
     /// The value that a key has.
-    Holds(u64, Option<u64>),
+    Value(u64, Option<u64>),
     /// How many pairs there are.
     Len(usize),
     /// How many slots there are.
@@ -60,66 +73,79 @@ const MOST: usize = 1 << 63;
 const STORIES: &[Story] = steps! {
     Story { name: "an insertion gives the pair back where the key is there",
         hasher: ScriptHash::Id, capacity: 0, steps: steps! {
-            Slots(0), Holds(1, None), Inserts(1, 10), Returns(1, 11), Holds(1, Some(10)),
-            Holds(2, None), Inserts(2, 10), Len(2), Slots(64) } },
+            Expect(Slots(0)), Expect(Value(1, None)), Insert(1, 10), InsertPresent(1, 11),
+            Expect(Value(1, Some(10))), Expect(Value(2, None)), Insert(2, 10), Expect(Len(2)),
+            Expect(Slots(64)) } },
     Story { name: "a removal finds a pair once", hasher: ScriptHash::Id, capacity: 0,
         steps: steps! {
-            Removes(1, false), Len(0), Inserts(1, 10), Inserts(2, 20), Removes(1, true),
-            Removes(1, false), Holds(1, None), Holds(2, Some(20)), Len(1), Removes(2, true),
-            Removes(2, false), Len(0) } },
+            Remove(1, false), Expect(Len(0)), Insert(1, 10), Insert(2, 20), Remove(1, true),
+            Remove(1, false), Expect(Value(1, None)), Expect(Value(2, Some(20))), Expect(Len(1)),
+            Remove(2, true), Remove(2, false), Expect(Len(0)) } },
     Story { name: "a removal hands its pair over once", hasher: ScriptHash::Id, capacity: 0,
         steps: steps! {
-            Reads(1, None), Inserts(1, 10), Inserts(2, 20), Reads(1, Some((1, 10))),
-            Reads(1, None), Removes(1, false), Holds(1, None), Len(1), Removes(2, true),
-            Reads(2, None), Len(0) } },
+            RemoveWith(1, None), Insert(1, 10), Insert(2, 20), RemoveWith(1, Some((1, 10))),
+            RemoveWith(1, None), Remove(1, false), Expect(Value(1, None)), Expect(Len(1)),
+            Remove(2, true), RemoveWith(2, None), Expect(Len(0)) } },
     Story { name: "a pair is removed if its value is what is asked for", hasher: ScriptHash::Id,
         capacity: 0, steps: steps! {
-            RemovesAbove(1, 0, false), Inserts(1, 10), Inserts(2, 20), RemovesAbove(1, 10, false),
-            RemovesAbove(3, 0, false), Holds(1, Some(10)), Len(2), RemovesAbove(1, 9, true),
-            RemovesAbove(1, 0, false), Holds(1, None), Len(1), Removes(2, true),
-            RemovesAbove(2, 0, false), Inserts(2, 21), RemovesAbove(2, 20, true), Len(0) } },
+            RemoveIfAbove(1, 0, false), Insert(1, 10), Insert(2, 20), RemoveIfAbove(1, 10, false),
+            RemoveIfAbove(3, 0, false), Expect(Value(1, Some(10))), Expect(Len(2)),
+            RemoveIfAbove(1, 9, true), RemoveIfAbove(1, 0, false), Expect(Value(1, None)),
+            Expect(Len(1)), Remove(2, true), RemoveIfAbove(2, 0, false), Insert(2, 21),
+            RemoveIfAbove(2, 20, true), Expect(Len(0)) } },
     Story { name: "a removed key comes again with another value", hasher: ScriptHash::Id,
         capacity: 0, steps: steps! {
-            Inserts(1, 10), Inserts(2, 20), Removes(1, true), Inserts(1, 11), Holds(1, Some(11)),
-            Len(2), Returns(1, 12), Reads(1, Some((1, 11))), Holds(1, None), Inserts(1, 13),
-            Holds(1, Some(13)), Len(2) } },
+            Insert(1, 10), Insert(2, 20), Remove(1, true), Insert(1, 11),
+            Expect(Value(1, Some(11))), Expect(Len(2)), InsertPresent(1, 12),
+            RemoveWith(1, Some((1, 11))), Expect(Value(1, None)), Insert(1, 13),
+            Expect(Value(1, Some(13))), Expect(Len(2)) } },
     // A bucket of 48 pairs doubles the slots while there is a pair for each 8: 64 make 1,024.
     Story { name: "keys of one hash make a chain", hasher: ScriptHash::Zero, capacity: 0,
         steps: steps! {
-            Fills(0, 100), Slots(1024), Len(100), Removes(50, true), Holds(50, None),
-            Reads(99, Some((99, 99))), Returns(98, 1), Inserts(50, 5), Holds(50, Some(5)), Len(99),
-            Drains(51, 99), Len(51), Removes(50, true), Len(50), Holds(49, Some(49)) } },
+            InsertRange(0..100), Expect(Slots(1024)), Expect(Len(100)), Remove(50, true),
+            Expect(Value(50, None)), RemoveWith(99, Some((99, 99))), InsertPresent(98, 1),
+            Insert(50, 5), Expect(Value(50, Some(5))), Expect(Len(99)), RemoveRange(51..99),
+            Expect(Len(51)), Remove(50, true), Expect(Len(50)), Expect(Value(49, Some(49))) } },
     Story { name: "pairs that aren't kept are gone, and their keys come again",
         hasher: ScriptHash::Zero, capacity: 0, steps: steps! {
-            Retains, Len(0), Fills(0, 40), Retains, Len(20), Holds(1, None), Holds(0, Some(0)),
-            Holds(38, Some(38)), Removes(39, false), Inserts(1, 11), Holds(1, Some(11)), Retains,
-            Holds(1, None), Len(20), Inserts(1, 12), Len(21), Slots(64) } },
+            RetainEven, Expect(Len(0)), InsertRange(0..40), RetainEven, Expect(Len(20)),
+            Expect(Value(1, None)), Expect(Value(0, Some(0))), Expect(Value(38, Some(38))),
+            Remove(39, false), Insert(1, 11), Expect(Value(1, Some(11))), RetainEven,
+            Expect(Value(1, None)), Expect(Len(20)), Insert(1, 12), Expect(Len(21)),
+            Expect(Slots(64)) } },
     Story { name: "pairs of both arrays are asked for amid a growth", hasher: ScriptHash::Spread,
         capacity: 0, steps: steps! {
-            Fills(0, 31), Fills(128, 159), Inserts(31, 31), Slots(128), Len(63), Retains, Len(32),
-            Holds(5, None), Holds(158, Some(158)), Removes(5, false), Inserts(5, 50), Len(33) } },
+            InsertRange(0..31), InsertRange(128..159), Insert(31, 31), Expect(Slots(128)),
+            Expect(Len(63)), RetainEven, Expect(Len(32)), Expect(Value(5, None)),
+            Expect(Value(158, Some(158))), Remove(5, false), Insert(5, 50), Expect(Len(33)) } },
     Story { name: "pairs are the same before, amid and after a growth",
         hasher: ScriptHash::Spread, capacity: 0, steps: steps! {
-            Fills(0, 31), Fills(128, 159), Slots(64), Len(62), Inserts(31, 31), Slots(128), Len(63),
-            Holds(5, Some(5)), Holds(158, Some(158)), Removes(5, true), Removes(5, false),
-            Reads(158, Some((158, 158))), Slots(128), Len(61), Holds(5, None), Holds(158, None),
-            Holds(6, Some(6)), Inserts(5, 50), Holds(5, Some(50)), Len(62) } },
+            InsertRange(0..31), InsertRange(128..159), Expect(Slots(64)), Expect(Len(62)),
+            Insert(31, 31), Expect(Slots(128)), Expect(Len(63)), Expect(Value(5, Some(5))),
+            Expect(Value(158, Some(158))), Remove(5, true), Remove(5, false),
+            RemoveWith(158, Some((158, 158))), Expect(Slots(128)), Expect(Len(61)),
+            Expect(Value(5, None)), Expect(Value(158, None)), Expect(Value(6, Some(6))),
+            Insert(5, 50), Expect(Value(5, Some(50))), Expect(Len(62)) } },
     // Three tombstones are in the array when it is dropped.
     Story { name: "what is removed before a growth doesn't come again",
         hasher: ScriptHash::Spread, capacity: 0, steps: steps! {
-            Fills(0, 31), Fills(128, 159), Removes(0, true), Removes(9, true), Removes(130, true),
-            Inserts(9, 90), Reserves(256, 256), Slots(256), Len(60), Holds(0, None),
-            Holds(9, Some(90)), Removes(0, false), Returns(9, 91), Slots(256), Len(60),
-            Inserts(0, 1), Inserts(130, 1), Len(62) } },
+            InsertRange(0..31), InsertRange(128..159), Remove(0, true), Remove(9, true),
+            Remove(130, true), Insert(9, 90), Resize(RaiseMinimum(256, 256)), Expect(Slots(256)),
+            Expect(Len(60)), Expect(Value(0, None)), Expect(Value(9, Some(90))), Remove(0, false),
+            InsertPresent(9, 91), Expect(Slots(256)), Expect(Len(60)), Insert(0, 1), Insert(130, 1),
+            Expect(Len(62)) } },
     Story { name: "a minimum is raised, and given back", hasher: ScriptHash::Spread, capacity: 100,
         steps: steps! {
-            Reserves(28, 28), Slots(0), Inserts(255, 255), Slots(128), Reserves(3968, 3968),
-            Slots(4096), Len(1), Holds(255, Some(255)), Removes(254, false), Shrinks, Slots(64),
-            Holds(255, Some(255)), Len(1), Reserves(MOST, MOST), Slots(64), Reserves(1, 0) } },
+            Resize(RaiseMinimum(28, 28)), Expect(Slots(0)), Insert(255, 255), Expect(Slots(128)),
+            Resize(RaiseMinimum(3968, 3968)), Expect(Slots(4096)), Expect(Len(1)),
+            Expect(Value(255, Some(255))), Remove(254, false), Resize(ShrinkToFit),
+            Expect(Slots(64)), Expect(Value(255, Some(255))), Expect(Len(1)),
+            Resize(RaiseMinimum(MOST, MOST)), Expect(Slots(64)), Resize(RaiseMinimum(1, 0)) } },
     Story { name: "a cleared index keeps its minimum", hasher: ScriptHash::Spread, capacity: 100,
         steps: steps! {
-            Fills(0, 40), Slots(128), Removes(5, true), Clears, Len(0), Slots(0), Holds(6, None),
-            Removes(6, false), Clears, Inserts(5, 6), Slots(128), Len(1), Holds(5, Some(6)) } }
+            InsertRange(0..40), Expect(Slots(128)), Remove(5, true), Clear, Expect(Len(0)),
+            Expect(Slots(0)), Expect(Value(6, None)), Remove(6, false), Clear, Insert(5, 6),
+            Expect(Slots(128)), Expect(Len(1)), Expect(Value(5, Some(6))) } }
 };
 
 #[test]
@@ -139,22 +165,25 @@ fn play(rt: &impl Abort, alloc: Global, story: &Story) {
     }
 }
 
-// Takes a step that inserts or removes pairs, and compares its result.
+// Takes a step, and compares its result.
 fn take(rt: &impl Abort, index: &mut Index, at: At, step: &Step) {
-    match *step {
-        Fills(from, to) => check_same(rt, fill(index, from, to), true, at),
-        Inserts(key, value) => check_same(rt, insert(index, key, value), Ok(()), at),
-        Returns(key, value) => {
-            check_same(rt, insert(index, key, value), Err(Some((key, value))), at);
+    match step {
+        InsertRange(keys) => check_same(rt, insert_range(index, keys), true, at),
+        Insert(key, value) => check_same(rt, insert(index, *key, *value), Ok(()), at),
+        InsertPresent(key, value) => {
+            let back = Err(Some((*key, *value)));
+            check_same(rt, insert(index, *key, *value), back, at);
         }
-        Removes(key, there) => check_same(rt, index.remove(&key), there, at),
-        Reads(key, pair) => check_same(rt, index.remove_with(&key, pair_of), pair, at),
-        RemovesAbove(key, floor, gone) => {
-            check_same(rt, remove_above(index, key, floor), gone, at);
+        Remove(key, there) => check_same(rt, index.remove(key), *there, at),
+        RemoveWith(key, pair) => check_same(rt, index.remove_with(key, pair_of), *pair, at),
+        RemoveIfAbove(key, floor, gone) => {
+            check_same(rt, remove_above(index, *key, *floor), *gone, at);
         }
-        Drains(from, to) => check_same(rt, drain(index, from, to), true, at),
-        Retains => index.retain(&mut is_even),
-        _ => resize(rt, index, at, step),
+        RemoveRange(keys) => check_same(rt, remove_range(index, keys), true, at),
+        RetainEven => index.retain(&mut is_even),
+        Clear => index.clear(),
+        Resize(call) => check_resize(rt, index, at, call),
+        Expect(wanted) => check_expected(rt, index, at, wanted),
     }
 }
 
@@ -169,9 +198,9 @@ fn insert(index: &mut Index, key: u64, value: u64) -> Result<(), Option<(u64, u6
 }
 
 // Inserts keys, each as its own value. Whether all were inserted.
-fn fill(index: &mut Index, from: u64, to: u64) -> bool {
+fn insert_range(index: &mut Index, keys: &Range<u64>) -> bool {
     let mut are_in = true;
-    for key in from..to {
+    for key in keys.start..keys.end {
         are_in = index.insert(key, key).is_ok() && are_in;
     }
     are_in
@@ -183,9 +212,9 @@ fn remove_above(index: &mut Index, key: u64, floor: u64) -> bool {
 }
 
 // Removes keys. Whether each was present.
-fn drain(index: &mut Index, from: u64, to: u64) -> bool {
+fn remove_range(index: &mut Index, keys: &Range<u64>) -> bool {
     let mut were_there = true;
-    for key in from..to {
+    for key in keys.start..keys.end {
         were_there = index.remove(&key) && were_there;
     }
     were_there
@@ -199,15 +228,18 @@ fn pair_of(own: &u64, value: &u64) -> (u64, u64) {
     (*own, *value)
 }
 
-// Takes a step that sets the minimum or looks.
-fn resize(rt: &impl Abort, index: &mut Index, at: At, step: &Step) {
-    match *step {
-        Reserves(additional, raised) => {
-            check_same(rt, index.raise_minimum(additional), raised, at);
-        }
-        Shrinks => index.shrink_to_fit(),
-        Clears => index.clear(),
-        Holds(key, value) => {
+// Makes a call that sets the minimum, and compares its result.
+fn check_resize(rt: &impl Abort, index: &mut Index, at: At, call: &Resize) {
+    match *call {
+        RaiseMinimum(by, raised) => check_same(rt, index.raise_minimum(by), raised, at),
+        ShrinkToFit => index.shrink_to_fit(),
+    }
+}
+
+// Compares what is seen of an index.
+fn check_expected(rt: &impl Abort, index: &Index, at: At, wanted: &Expect) {
+    match *wanted {
+        Value(key, value) => {
             let found = (
                 index.peek(&key).copied(),
                 index.contains(&key),
@@ -221,7 +253,6 @@ fn resize(rt: &impl Abort, index: &mut Index, at: At, step: &Step) {
             check_same(rt, found, (len, len == 0, Some(len)), at);
         }
         Slots(slots) => check_same(rt, index.capacity(), slots, at),
-        _ => check_same(rt, true, false, (at, "no step")),
     }
 }
 

@@ -1,10 +1,14 @@
 //! Stories of a map of numbers, and how many slots it has from the first pair on.
+use super::maps::Expect::*;
+use super::maps::Resize::*;
 use super::maps::Step::*;
+use super::maps::Write::*;
 use super::maps::{Map, Story, play};
-use super::{check_same, draining, std_maps, steps};
+use super::{check_same, draining, std_maps};
 use bucket_table::script::ScriptHash;
 use collections::hash_map::HashMap;
 use std::test::Fail;
+use test_helpers::steps;
 
 // The greatest number of slots. Allocating so many fails.
 const MOST: usize = 1 << 63;
@@ -14,113 +18,144 @@ const MOST: usize = 1 << 63;
 const STORIES: &[Story] = steps! {
     Story { name: "an insertion gives the pair back where the key is there",
         hasher: ScriptHash::Id, minimum: 0, steps: steps! {
-            Slots(0), Inserts(1, 10), Returns(1, 11), Holds(1, Some(10)), Holds(2, None),
-            Inserts(2, 10), Holds(2, Some(10)), Len(2), Slots(64) } },
+            Expect(Slots(0)), Insert(1, 10), InsertPresent(1, 11), Expect(Value(1, Some(10))),
+            Expect(Value(2, None)), Insert(2, 10), Expect(Value(2, Some(10))), Expect(Len(2)),
+            Expect(Slots(64)) } },
     Story { name: "an upsert puts a pair once, and then writes its value",
         hasher: ScriptHash::Id, minimum: 0, steps: steps! {
-            Upserts(1, 10, None), Upserts(1, 11, Some(10)), Upserts(2, 5, None), Len(2),
-            Holds(1, Some(11)), Returns(1, 12), Upserts(1, 13, Some(11)), Len(2) } },
+            Upsert(1, 10, None), Upsert(1, 11, Some(10)), Upsert(2, 5, None), Expect(Len(2)),
+            Expect(Value(1, Some(11))), InsertPresent(1, 12), Upsert(1, 13, Some(11)),
+            Expect(Len(2)) } },
     Story { name: "an update writes where a pair is there, and makes none",
         hasher: ScriptHash::Id, minimum: 0, steps: steps! {
-            Updates(1, None), Len(0), Slots(0), Inserts(1, 10), Updates(1, Some((1, 10))),
-            Updates(1, Some((1, 11))), Updates(2, None), Holds(1, Some(12)), Len(1) } },
+            Write(AddOne(1, None)), Expect(Len(0)), Expect(Slots(0)), Insert(1, 10),
+            Write(AddOne(1, Some((1, 10)))), Write(AddOne(1, Some((1, 11)))),
+            Write(AddOne(2, None)), Expect(Value(1, Some(12))), Expect(Len(1)) } },
     Story { name: "a removal takes a pair out once",
         hasher: ScriptHash::Id, minimum: 0, steps: steps! {
-            Removes(1, None), RemovesAbove(1, 0, None), Inserts(1, 10), Inserts(2, 20),
-            RemovesAbove(1, 10, None), Len(2), RemovesAbove(1, 9, Some((1, 10))), Inserts(1, 10),
-            Removes(1, Some((1, 10))),
-            Removes(1, None), Holds(1, None), Holds(2, Some(20)), Len(1), Inserts(1, 11),
-            Removes(1, Some((1, 11))) } },
+            Remove(1, None), RemoveIfAbove(1, 0, None), Insert(1, 10), Insert(2, 20),
+            RemoveIfAbove(1, 10, None), Expect(Len(2)), RemoveIfAbove(1, 9, Some((1, 10))),
+            Insert(1, 10), Remove(1, Some((1, 10))), Remove(1, None), Expect(Value(1, None)),
+            Expect(Value(2, Some(20))), Expect(Len(1)), Insert(1, 11), Remove(1, Some((1, 11))) } },
     Story { name: "pairs are the same before, amid and after a growth",
         hasher: ScriptHash::Spread, minimum: 0, steps: steps! {
-            Fills(0, 31), Fills(128, 159), Slots(64), Len(62), Inserts(31, 31), Slots(128), Len(63),
-            Holds(5, Some(5)), Holds(158, Some(158)), Updates(5, Some((5, 5))), Slots(128),
-            Len(63), Holds(5, Some(6)), Upserts(130, 1, Some(130)), Removes(130, Some((130, 1))),
-            Len(62) } },
+            InsertRange(0..31), InsertRange(128..159), Expect(Slots(64)), Expect(Len(62)),
+            Insert(31, 31), Expect(Slots(128)), Expect(Len(63)), Expect(Value(5, Some(5))),
+            Expect(Value(158, Some(158))), Write(AddOne(5, Some((5, 5)))), Expect(Slots(128)),
+            Expect(Len(63)), Expect(Value(5, Some(6))), Upsert(130, 1, Some(130)),
+            Remove(130, Some((130, 1))), Expect(Len(62)) } },
     Story { name: "a removal and an upsert amid a growth find the pair where it is",
         hasher: ScriptHash::Spread, minimum: 0, steps: steps! {
-            Fills(0, 31), Fills(128, 159), Fills(31, 32), Slots(128), Removes(7, Some((7, 7))),
-            Upserts(8, 9, Some(8)), Holds(7, None), Holds(8, Some(9)), Len(62) } },
+            InsertRange(0..31), InsertRange(128..159), InsertRange(31..32), Expect(Slots(128)),
+            Remove(7, Some((7, 7))), Upsert(8, 9, Some(8)), Expect(Value(7, None)),
+            Expect(Value(8, Some(9))), Expect(Len(62)) } },
     Story { name: "a loan writes where a pair is there, and makes none",
         hasher: ScriptHash::Id, minimum: 0, steps: steps! {
-            Lends(1, 10, None), Len(0), Slots(0), Inserts(1, 10), Lends(1, 11, Some(10)),
-            Holds(1, Some(11)), Lends(2, 20, None), Holds(2, None), Lends(1, 12, Some(11)),
-            Removes(1, Some((1, 12))), Lends(1, 13, None), Len(0) } },
+            Write(ByGetMut(1, 10, None)), Expect(Len(0)), Expect(Slots(0)), Insert(1, 10),
+            Write(ByGetMut(1, 11, Some(10))), Expect(Value(1, Some(11))),
+            Write(ByGetMut(2, 20, None)), Expect(Value(2, None)), Write(ByGetMut(1, 12, Some(11))),
+            Remove(1, Some((1, 12))), Write(ByGetMut(1, 13, None)), Expect(Len(0)) } },
     Story { name: "a loan amid a growth is of the pair where it is",
         hasher: ScriptHash::Spread, minimum: 0, steps: steps! {
-            Fills(0, 31), Fills(128, 159), Fills(31, 32), Slots(128), Lends(5, 50, Some(5)),
-            Lends(158, 1, Some(158)), Lends(32, 1, None), Holds(5, Some(50)), Holds(4, Some(4)),
-            Holds(158, Some(1)), Holds(157, Some(157)), Len(63) } },
+            InsertRange(0..31), InsertRange(128..159), InsertRange(31..32), Expect(Slots(128)),
+            Write(ByGetMut(5, 50, Some(5))), Write(ByGetMut(158, 1, Some(158))),
+            Write(ByGetMut(32, 1, None)), Expect(Value(5, Some(50))), Expect(Value(4, Some(4))),
+            Expect(Value(158, Some(1))), Expect(Value(157, Some(157))), Expect(Len(63)) } },
     Story { name: "what is retained has the values that were left", hasher: ScriptHash::Id,
         minimum: 0, steps: steps! {
-            Retains(2, 0, 0), Len(0), Fills(0, 10), Retains(1, 0, 10), Len(10), Holds(3, Some(4)),
-            Retains(3, 1, 10), Len(3), Holds(1, Some(3)), Holds(4, Some(6)), Holds(7, Some(9)),
-            Holds(3, None), Returns(4, 1), Inserts(3, 30), Retains(8, 3, 4), Len(1),
-            Holds(3, Some(31)), Retains(2, 0, 1), Len(0), Inserts(3, 3), Len(1) } },
+            RetainAndAddOne(2, 0, 0), Expect(Len(0)), InsertRange(0..10), RetainAndAddOne(1, 0, 10),
+            Expect(Len(10)), Expect(Value(3, Some(4))), RetainAndAddOne(3, 1, 10), Expect(Len(3)),
+            Expect(Value(1, Some(3))), Expect(Value(4, Some(6))), Expect(Value(7, Some(9))),
+            Expect(Value(3, None)), InsertPresent(4, 1), Insert(3, 30), RetainAndAddOne(8, 3, 4),
+            Expect(Len(1)), Expect(Value(3, Some(31))), RetainAndAddOne(2, 0, 1), Expect(Len(0)),
+            Insert(3, 3), Expect(Len(1)) } },
     // The even keys of both ranges are 16 and 16.
     Story { name: "pairs are retained amid a growth", hasher: ScriptHash::Spread, minimum: 0,
         steps: steps! {
-            Fills(0, 31), Fills(128, 159), Fills(31, 32), Slots(128), Retains(2, 0, 63), Len(32),
-            Holds(0, Some(1)), Holds(30, Some(31)), Holds(31, None), Holds(157, None),
-            Holds(158, Some(159)), Inserts(31, 7), Retains(2, 1, 33), Len(1),
-            Holds(31, Some(8)) } },
+            InsertRange(0..31), InsertRange(128..159), InsertRange(31..32), Expect(Slots(128)),
+            RetainAndAddOne(2, 0, 63), Expect(Len(32)), Expect(Value(0, Some(1))),
+            Expect(Value(30, Some(31))), Expect(Value(31, None)), Expect(Value(157, None)),
+            Expect(Value(158, Some(159))), Insert(31, 7), RetainAndAddOne(2, 1, 33), Expect(Len(1)),
+            Expect(Value(31, Some(8))) } },
     Story { name: "each value is written once", hasher: ScriptHash::Spread, minimum: 0,
         steps: steps! {
-            Writes(0), Len(0), Fills(0, 31), Fills(128, 159), Writes(62), Holds(30, Some(31)),
-            Fills(31, 32), Slots(128), Writes(63), Len(63), Holds(30, Some(32)),
-            Holds(31, Some(32)), Holds(158, Some(160)), Holds(32, None) } },
+            Write(AddOneToAll(0)), Expect(Len(0)), InsertRange(0..31), InsertRange(128..159),
+            Write(AddOneToAll(62)), Expect(Value(30, Some(31))), InsertRange(31..32),
+            Expect(Slots(128)), Write(AddOneToAll(63)), Expect(Len(63)),
+            Expect(Value(30, Some(32))), Expect(Value(31, Some(32))), Expect(Value(158, Some(160))),
+            Expect(Value(32, None)) } },
     // A bucket of 48 pairs doubles the slots while there is a pair for each 8: 64 make 1,024.
     Story { name: "keys of one hash make a chain", hasher: ScriptHash::Zero, minimum: 0,
         steps: steps! {
-            Fills(0, 100), Slots(1024), Len(100), Removes(50, Some((50, 50))), Returns(99, 1),
-            Holds(99, Some(99)), Updates(33, Some((33, 33))), Lends(98, 98, Some(98)),
-            Drains(51, 100), Len(50), Retains(2, 1, 50), Len(25), Holds(49, Some(50)) } },
+            InsertRange(0..100), Expect(Slots(1024)), Expect(Len(100)), Remove(50, Some((50, 50))),
+            InsertPresent(99, 1), Expect(Value(99, Some(99))), Write(AddOne(33, Some((33, 33)))),
+            Write(ByGetMut(98, 98, Some(98))), RemoveRange(51..100), Expect(Len(50)),
+            RetainAndAddOne(2, 1, 50), Expect(Len(25)), Expect(Value(49, Some(50))) } },
     // 13 of 16 of 64 slots are 52 pairs, and of 128 slots 104.
     Story { name: "room is made once for the pairs that are to come", hasher: ScriptHash::Spread,
         minimum: 0, steps: steps! {
-            MakesRoom(0), Slots(0), MakesRoom(1), Slots(64), MakesRoom(52), Slots(64),
-            MakesRoom(53), Slots(128), MakesRoom(53), Slots(128), Fills(0, 10), MakesRoom(94),
-            Slots(128), MakesRoom(95), Slots(256), MakesRoom(95), MakesRoom(1), Slots(256),
-            Holds(9, Some(9)), Len(10) } },
+            Resize(Reserve(0)), Expect(Slots(0)), Resize(Reserve(1)), Expect(Slots(64)),
+            Resize(Reserve(52)), Expect(Slots(64)), Resize(Reserve(53)), Expect(Slots(128)),
+            Resize(Reserve(53)), Expect(Slots(128)), InsertRange(0..10), Resize(Reserve(94)),
+            Expect(Slots(128)), Resize(Reserve(95)), Expect(Slots(256)), Resize(Reserve(95)),
+            Resize(Reserve(1)), Expect(Slots(256)), Expect(Value(9, Some(9))), Expect(Len(10)) } },
     Story { name: "room is made amid a growth", hasher: ScriptHash::Spread, minimum: 0,
         steps: steps! {
-            Fills(0, 31), Fills(128, 159), Fills(31, 32), Slots(128), MakesRoom(41), Slots(128),
-            Len(63), Holds(5, Some(5)), Holds(158, Some(158)), MakesRoom(42), Slots(256), Len(63),
-            Removes(5, Some((5, 5))), Returns(158, 1) } },
+            InsertRange(0..31), InsertRange(128..159), InsertRange(31..32), Expect(Slots(128)),
+            Resize(Reserve(41)), Expect(Slots(128)), Expect(Len(63)), Expect(Value(5, Some(5))),
+            Expect(Value(158, Some(158))), Resize(Reserve(42)), Expect(Slots(256)), Expect(Len(63)),
+            Remove(5, Some((5, 5))), InsertPresent(158, 1) } },
     Story { name: "a map takes pairs where there was no room for more", hasher: ScriptHash::Id,
         minimum: 0, steps: steps! {
-            LacksRoom(1 << 60), Slots(0), Inserts(1, 10), LacksRoom(1 << 60), LacksRoom(1 << 63),
-            LacksRoom(usize::MAX), Slots(64), Inserts(2, 20), Holds(1, Some(10)), Len(2) } },
+            Resize(ReserveWithoutMemory(1 << 60)), Expect(Slots(0)), Insert(1, 10),
+            Resize(ReserveWithoutMemory(1 << 60)), Resize(ReserveWithoutMemory(1 << 63)),
+            Resize(ReserveWithoutMemory(usize::MAX)), Expect(Slots(64)), Insert(2, 20),
+            Expect(Value(1, Some(10))), Expect(Len(2)) } },
     // 250 pairs are more than 13 of 16 of 256 slots, which are 208.
     Story { name: "as few slots are left as the pairs take", hasher: ScriptHash::Spread,
         minimum: 0, steps: steps! {
-            MakesRoom(100000), Slots(131072), Fills(0, 250), Slots(131072), Shrinks, Slots(512),
-            Len(250), Holds(249, Some(249)), Shrinks, Slots(512), Drains(0, 250), Shrinks,
-            Slots(0), Shrinks, Slots(0), Inserts(1, 1), Slots(64), Len(1) } },
+            Resize(Reserve(100000)), Expect(Slots(131072)), InsertRange(0..250),
+            Expect(Slots(131072)), Resize(ShrinkToFit), Expect(Slots(512)), Expect(Len(250)),
+            Expect(Value(249, Some(249))), Resize(ShrinkToFit), Expect(Slots(512)),
+            RemoveRange(0..250), Resize(ShrinkToFit), Expect(Slots(0)), Resize(ShrinkToFit),
+            Expect(Slots(0)), Insert(1, 1), Expect(Slots(64)), Expect(Len(1)) } },
     Story { name: "the first array has room for what is asked for", hasher: ScriptHash::Id,
-        minimum: 100, steps: steps! { Slots(0), Inserts(1, 1), Slots(128) } },
+        minimum: 100, steps: steps! { Expect(Slots(0)), Insert(1, 1), Expect(Slots(128)) } },
     Story { name: "a minimum is raised, and given back", hasher: ScriptHash::Spread, minimum: 100,
         steps: steps! {
-            Reserves(28, 28), Slots(0), Inserts(255, 255), Slots(128), Reserves(3968, 3968),
-            Slots(4096), Len(1), Holds(255, Some(255)), Updates(255, Some((255, 255))), Shrinks,
-            Slots(64), Holds(255, Some(256)), Len(1) } },
+            Resize(RaiseMinimum(28, 28)), Expect(Slots(0)), Insert(255, 255), Expect(Slots(128)),
+            Resize(RaiseMinimum(3968, 3968)), Expect(Slots(4096)), Expect(Len(1)),
+            Expect(Value(255, Some(255))), Write(AddOne(255, Some((255, 255)))),
+            Resize(ShrinkToFit), Expect(Slots(64)), Expect(Value(255, Some(256))),
+            Expect(Len(1)) } },
     Story { name: "no minimum passes the greatest number of slots", hasher: ScriptHash::Id,
         minimum: 1, steps: steps! {
-            Reserves(MOST, 0), Reserves(MOST - 1, MOST - 1), Reserves(1, 0), Reserves(0, 0),
-            Refuses(1, 10), Len(0), Shrinks, Reserves(1, 1), Inserts(1, 10), Slots(64) } },
+            Resize(RaiseMinimum(MOST, 0)), Resize(RaiseMinimum(MOST - 1, MOST - 1)),
+            Resize(RaiseMinimum(1, 0)), Resize(RaiseMinimum(0, 0)), InsertWithoutMemory(1, 10),
+            Expect(Len(0)), Resize(ShrinkToFit), Resize(RaiseMinimum(1, 1)), Insert(1, 10),
+            Expect(Slots(64)) } },
     // An array that stands stays, and takes pairs.
     Story { name: "a minimum is raised where there is no memory for it", hasher: ScriptHash::Id,
         minimum: 0, steps: steps! {
-            Inserts(1, 10), Reserves(MOST, MOST), Slots(64), Inserts(2, 20), Holds(1, Some(10)),
-            Clears, Refuses(3, 30), Shrinks, Inserts(3, 30), Slots(64), Len(1) } },
+            Insert(1, 10), Resize(RaiseMinimum(MOST, MOST)), Expect(Slots(64)), Insert(2, 20),
+            Expect(Value(1, Some(10))), Clear, Expect(Slots(64)), Insert(3, 30), Expect(Len(1)),
+            Clear, Resize(ShrinkToFit), Expect(Slots(0)) } },
+    Story { name: "a cleared map keeps the slots of its minimum", hasher: ScriptHash::Spread,
+        minimum: 128, steps: steps! {
+            InsertRange(0..30), Insert(200, 1), Expect(Slots(128)), Clear, Expect(Len(0)),
+            Expect(Slots(128)), Expect(Value(5, None)), Expect(Value(200, None)), Remove(5, None),
+            Insert(5, 6), Expect(Len(1)), Expect(Value(5, Some(6))), Clear, Clear, Expect(Len(0)),
+            Expect(Slots(128)) } },
     Story { name: "a cleared map keeps its minimum", hasher: ScriptHash::Spread, minimum: 100,
         steps: steps! {
-            Fills(0, 40), Slots(128), Clears, Len(0), Slots(0), Holds(5, None), Removes(5, None),
-            Clears, Inserts(5, 6), Slots(128), Len(1), Holds(5, Some(6)) } },
+            InsertRange(0..40), Expect(Slots(128)), Clear, Expect(Len(0)), Expect(Slots(0)),
+            Expect(Value(5, None)), Remove(5, None), Clear, Insert(5, 6), Expect(Slots(128)),
+            Expect(Len(1)), Expect(Value(5, Some(6))) } },
     Story { name: "a map is cleared amid a growth", hasher: ScriptHash::Spread, minimum: 0,
         steps: steps! {
-            Fills(0, 31), Fills(128, 159), Fills(31, 32), Slots(128), Clears, Len(0), Slots(0),
-            Inserts(200, 1), Slots(64), Len(1) } }
+            InsertRange(0..31), InsertRange(128..159), InsertRange(31..32), Expect(Slots(128)),
+            Clear, Expect(Len(0)), Expect(Slots(0)), Insert(200, 1), Expect(Slots(64)),
+            Expect(Len(1)) } }
 };
 
 // So many pairs, and how many slots the first array has for them: of half as many they take more

@@ -1,61 +1,81 @@
 //! The steps of stories of a map of numbers: what each call returns, how many slots there are then,
 //! and which pairs `for_each` and the iterators visit.
 use super::iterating::{MOST_BUCKETS, Pairs, gone_over, same_pairs, walk_numbers, walk_pairs};
-use super::{At, check_same, pair_with, write};
+use super::two_sets::Ranges;
+use super::{check_same, pair_with};
+use Expect::*;
+use Resize::*;
 use Step::*;
+use Write::*;
 use bucket_table::script::ScriptHash;
 use collections::hash_map::{HashMap, NotInserted};
 use std::alloc::Global;
+use std::ops::Range;
 use std::process::Abort;
+use test_helpers::{At, overwrite};
 
 pub(super) type Map = HashMap<u64, u64, ScriptHash>;
 
-/// A call on a map with its result, or what is seen of the map. Of two keys the second is the first
-/// that is not meant.
+/// A call on a map with its result, or what is seen of the map.
 pub(super) enum Step {
-    /// Keys are inserted, each as its own value.
-    Fills(u64, u64),
-    /// Keys are inserted, each with the third number's multiple of it.
-    Multiplies(u64, u64, u64),
-    /// A pair is inserted.
-    Inserts(u64, u64),
-    /// A pair is returned, since its key is present.
-    Returns(u64, u64),
-    /// A pair is returned by both calls that insert one, since allocating an array fails.
-    Refuses(u64, u64),
-    /// A value is put or written, and this was the earlier one.
-    Upserts(u64, u64, Option<u64>),
-    /// One is added to a value, and the pair was this one.
-    Updates(u64, Option<(u64, u64)>),
-    /// A value is written through a mutable reference, and this was the earlier one.
-    Lends(u64, u64, Option<u64>),
-    /// One is added to each value, and the pairs stay whose keys leave the second number, divided
-    /// by the first. The function was called with so many pairs.
-    Retains(u64, u64, usize),
-    /// One is added to each value, and the function was called so often.
-    Writes(usize),
-    /// The same pairs stay, and no value is written.
-    Keeps(u64, u64, usize),
-    /// The pair that is removed.
-    Removes(u64, Option<(u64, u64)>),
-    /// The pair that is removed, if its value is above the second number.
-    RemovesAbove(u64, u64, Option<(u64, u64)>),
-    /// Keys are removed, each with itself as its value.
-    Drains(u64, u64),
-    /// A drain returns so many pairs, and is dropped.
-    Leaves(usize),
-    /// The minimum is to be raised by the first number, and is by the second.
-    Reserves(usize, usize),
-    /// Room is made for so many pairs more.
-    MakesRoom(usize),
-    /// Allocating room for so many pairs more fails.
-    LacksRoom(usize),
-    /// The minimum is set to 0, and the slots that the pairs don't take are freed.
-    Shrinks,
-    /// All pairs are removed.
-    Clears,
+    /// Insert keys, each as its own value.
+    InsertRange(Range<u64>),
+    /// Insert keys, each with this multiple of it.
+    InsertMultiples(Range<u64>, u64),
+    /// Insert a pair.
+    Insert(u64, u64),
+    /// Insert a pair, which is returned, since its key is present.
+    InsertPresent(u64, u64),
+    /// Insert a pair by both calls, which return it, since allocating an array fails.
+    InsertWithoutMemory(u64, u64),
+    /// Insert a value or write it: this was the earlier one.
+    Upsert(u64, u64, Option<u64>),
+    Write(Write),
+    /// Add one to each value, and retain the pairs whose keys leave the second number, divided by
+    /// the first. The function is called with so many pairs.
+    RetainAndAddOne(u64, u64, usize),
+    /// Retain the same pairs, and write no value.
+    Retain(u64, u64, usize),
+    /// Remove a key: this was its pair, or it is absent.
+    Remove(u64, Option<(u64, u64)>),
+    /// Remove a key if its value is above the second number: this was its pair, or none is removed.
+    RemoveIfAbove(u64, u64, Option<(u64, u64)>),
+    /// Remove keys, each with itself as its value.
+    RemoveRange(Range<u64>),
+    /// Take so many pairs from a drain, and drop it.
+    DrainPart(usize),
+    /// Remove all pairs.
+    Clear,
+    Resize(Resize),
+    Expect(Expect),
+}
+
+/// A call that writes values.
+pub(super) enum Write {
+    /// Add one to a value. The pair was this one.
+    AddOne(u64, Option<(u64, u64)>),
+    /// Write a value through a mutable reference: this was the earlier one.
+    ByGetMut(u64, u64, Option<u64>),
+    /// Add one to each value. The function is called so often.
+    AddOneToAll(usize),
+}
+
+/// A call that sets the minimum or the slots.
+pub(super) enum Resize {
+    /// Raise the minimum by the first number: it is raised by the second.
+    RaiseMinimum(usize, usize),
+    /// Make room for so many pairs more.
+    Reserve(usize),
+    /// Fail to allocate room for so many pairs more.
+    ReserveWithoutMemory(usize),
+    /// Set the minimum to 0, and free the slots that the pairs don't take.
+    ShrinkToFit,
+}
+
+/// What is expected of a map.
+pub(super) enum Expect {
     /// The value that a key has.
-    Holds(u64, Option<u64>),
+    Value(u64, Option<u64>),
     /// How many pairs there are.
     Len(usize),
     /// How many slots there are.
@@ -70,15 +90,24 @@ pub(super) struct Story {
     pub(super) steps: &'static [Step],
 }
 
-// Keys from the first to one before the last are inserted, each as its own value. Whether all are.
-pub(super) fn fill(map: &mut Map, first: u64, last: u64) -> bool {
-    multiply(map, first, last, 1)
+// Inserts keys, each as its own value. Whether all were inserted.
+pub(super) fn fill(map: &mut Map, keys: &Range<u64>) -> bool {
+    multiply(map, keys, 1)
 }
 
-// The same, each with a multiple of it.
-fn multiply(map: &mut Map, first: u64, last: u64, factor: u64) -> bool {
+// A map of keys, each as its own value.
+pub(super) fn map_of(alloc: Global, hasher: ScriptHash, ranges: Ranges) -> Map {
+    let mut map = HashMap::with_hasher(alloc, hasher);
+    for keys in ranges {
+        let _ = fill(&mut map, keys);
+    }
+    map
+}
+
+// Inserts keys, each with a multiple of it as its value. Whether all were inserted.
+fn multiply(map: &mut Map, keys: &Range<u64>, factor: u64) -> bool {
     let mut are_in = true;
-    for key in first..last {
+    for key in keys.start..keys.end {
         are_in = map.insert(key, key.wrapping_mul(factor)).is_ok() && are_in;
     }
     are_in
@@ -100,65 +129,63 @@ fn play_one(rt: &impl Abort, map: &mut Map, story: &Story) {
     }
 }
 
-// Takes a step that puts pairs, and compares its result.
+// Takes a step, and compares its result.
 pub(super) fn take(rt: &impl Abort, map: &mut Map, at: At, step: &Step) {
-    match *step {
-        Fills(from, to) => check_same(rt, fill(map, from, to), true, at),
-        Multiplies(from, to, factor) => {
-            check_same(rt, multiply(map, from, to, factor), true, at);
+    match step {
+        InsertRange(keys) => check_same(rt, fill(map, keys), true, at),
+        InsertMultiples(keys, factor) => check_same(rt, multiply(map, keys, *factor), true, at),
+        Insert(key, value) => check_same(rt, insert(map, *key, *value), Ok(()), at),
+        InsertPresent(key, value) => {
+            let back = Err((IS_THERE, *key, *value));
+            check_same(rt, insert(map, *key, *value), back, at);
         }
-        Inserts(key, value) => check_same(rt, insert(map, key, value), Ok(()), at),
-        Returns(key, value) => {
-            check_same(rt, insert(map, key, value), Err((IS_THERE, key, value)), at);
+        InsertWithoutMemory(key, value) => {
+            let back = Err((NO_MEMORY, *key, *value));
+            check_same(rt, insert(map, *key, *value), back, at);
+            check_same(rt, upsert(map, *key, *value), Err((*key, *value)), at);
         }
-        Refuses(key, value) => {
-            check_same(
-                rt,
-                insert(map, key, value),
-                Err((NO_MEMORY, key, value)),
-                at,
-            );
-            check_same(rt, upsert(map, key, value), Err((key, value)), at);
+        Upsert(key, value, earlier) => {
+            check_same(rt, upsert(map, *key, *value), Ok(*earlier), at);
         }
-        Upserts(key, value, earlier) => {
-            check_same(rt, upsert(map, key, value), Ok(earlier), at);
+        Write(call) => check_write(rt, map, at, call),
+        RetainAndAddOne(divisor, rest, asked) => {
+            check_same(rt, retain(map, *divisor, *rest, 1), *asked, at);
         }
-        _ => change(rt, map, at, step),
+        Retain(divisor, rest, asked) => {
+            check_same(rt, retain(map, *divisor, *rest, 0), *asked, at);
+        }
+        Remove(key, pair) => check_same(rt, map.remove(key), *pair, at),
+        RemoveIfAbove(key, floor, pair) => {
+            check_same(rt, remove_above(map, *key, *floor), *pair, at);
+        }
+        RemoveRange(keys) => check_same(rt, remove_range(map, keys), true, at),
+        DrainPart(pairs) => check_same(rt, drain_part(map, *pairs), *pairs, at),
+        Clear => map.clear(),
+        Resize(call) => check_resize(rt, map, at, call),
+        Expect(wanted) => check_expected(rt, map, at, wanted),
     }
 }
 
-// Takes a step that writes values, and compares its result.
-fn change(rt: &impl Abort, map: &mut Map, at: At, step: &Step) {
-    match *step {
-        Updates(key, pair) => check_same(rt, map.update(&key, add_one), pair, at),
-        Lends(key, value, earlier) => check_same(rt, write(map.get_mut(&key), value), earlier, at),
-        Retains(divisor, rest, asked) => check_same(rt, retain(map, divisor, rest, 1), asked, at),
-        Keeps(divisor, rest, asked) => check_same(rt, retain(map, divisor, rest, 0), asked, at),
-        Writes(count) => check_same(rt, write_all(map), count, at),
-        _ => remove(rt, map, at, step),
+// Makes a call that writes values, and compares its result.
+fn check_write(rt: &impl Abort, map: &mut Map, at: At, call: &Write) {
+    match *call {
+        AddOne(key, pair) => check_same(rt, map.update(&key, add_one), pair, at),
+        ByGetMut(key, value, earlier) => {
+            check_same(rt, overwrite(map.get_mut(&key), value), earlier, at);
+        }
+        AddOneToAll(count) => check_same(rt, add_one_to_all(map), count, at),
     }
 }
 
-// Takes a step that removes pairs, and compares its result.
-fn remove(rt: &impl Abort, map: &mut Map, at: At, step: &Step) {
-    match *step {
-        Removes(key, pair) => check_same(rt, map.remove(&key), pair, at),
-        RemovesAbove(key, floor, pair) => check_same(rt, remove_above(map, key, floor), pair, at),
-        Drains(from, to) => check_same(rt, drain(map, from, to), true, at),
-        Leaves(pairs) => check_same(rt, leave(map, pairs), pairs, at),
-        Clears => map.clear(),
-        _ => resize(rt, map, at, step),
-    }
-}
-
-// Takes a step that sets the minimum or the slots, and compares its result.
-fn resize(rt: &impl Abort, map: &mut Map, at: At, step: &Step) {
-    match *step {
-        Reserves(additional, raised) => check_same(rt, map.raise_minimum(additional), raised, at),
-        MakesRoom(additional) => check_same(rt, map.try_reserve(additional).is_ok(), true, at),
-        LacksRoom(additional) => check_same(rt, map.try_reserve(additional).is_ok(), false, at),
-        Shrinks => check_same(rt, map.shrink_to_fit().is_ok(), true, at),
-        _ => look(rt, map, at, step),
+// Makes a call that sets the minimum or the slots, and compares its result.
+fn check_resize(rt: &impl Abort, map: &mut Map, at: At, call: &Resize) {
+    match *call {
+        RaiseMinimum(by, raised) => check_same(rt, map.raise_minimum(by), raised, at),
+        Reserve(additional) => check_same(rt, map.try_reserve(additional).is_ok(), true, at),
+        ReserveWithoutMemory(additional) => {
+            check_same(rt, map.try_reserve(additional).is_ok(), false, at);
+        }
+        ShrinkToFit => check_same(rt, map.shrink_to_fit().is_ok(), true, at),
     }
 }
 
@@ -205,7 +232,7 @@ fn retain(map: &mut Map, divisor: u64, rest: u64, more: u64) -> usize {
 }
 
 // Adds one to each value. Returns how many were lent.
-fn write_all(map: &mut Map) -> usize {
+fn add_one_to_all(map: &mut Map) -> usize {
     let mut lent: usize = 0;
     let mut write = |_key: &u64, value: &mut u64| {
         lent = lent.saturating_add(1);
@@ -221,23 +248,23 @@ fn remove_above(map: &mut Map, key: u64, floor: u64) -> Option<(u64, u64)> {
 }
 
 // Removes keys. Whether each was present with its own value.
-fn drain(map: &mut Map, first: u64, last: u64) -> bool {
+fn remove_range(map: &mut Map, keys: &Range<u64>) -> bool {
     let mut were_there = true;
-    for key in first..last {
+    for key in keys.start..keys.end {
         were_there = map.remove(&key) == Some((key, key)) && were_there;
     }
     were_there
 }
 
 // Takes so many pairs from a drain, and drops it. Returns how many there were.
-fn leave(map: &mut Map, pairs: usize) -> usize {
+fn drain_part(map: &mut Map, pairs: usize) -> usize {
     map.drain().take(pairs).count()
 }
 
-// Takes a step that looks.
-fn look(rt: &impl Abort, map: &Map, at: At, step: &Step) {
-    match *step {
-        Holds(key, value) => {
+// Compares what is seen of a map.
+fn check_expected(rt: &impl Abort, map: &Map, at: At, wanted: &Expect) {
+    match *wanted {
+        Value(key, value) => {
             let found = (map.get(&key).copied(), map.contains(&key), pair(map, key));
             let wanted = (value, value.is_some(), pair_with(key, value));
             check_same(rt, found, wanted, at);
@@ -247,7 +274,6 @@ fn look(rt: &impl Abort, map: &Map, at: At, step: &Step) {
             check_same(rt, found, (len, len == 0, Some(len)), at);
         }
         Slots(slots) => check_same(rt, map.capacity(), slots, at),
-        _ => check_same(rt, true, false, (at, "no step")),
     }
 }
 

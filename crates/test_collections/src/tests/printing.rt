@@ -1,7 +1,7 @@
 //! How collections are printed, which no clause says: as those of the standard library.
+use super::check_same;
 use super::maps::Map;
 use super::sets::Set;
-use super::{check_same, steps};
 use bucket_table::script::ScriptHash;
 use collections::hash_cache::HashCache;
 use collections::hash_index::HashIndex;
@@ -11,6 +11,7 @@ use std::alloc::{AllocError, Global};
 use std::fmt::Debug;
 use std::process::Abort;
 use std::test::Fail;
+use test_helpers::steps;
 
 type Cache = HashCache<u64, u64, ScriptHash>;
 

@@ -1,62 +1,80 @@
 //! The story of a set of numbers.
 use super::two_sets::{Call, Ranges, check_listed, handed_over};
-use super::{At, check_same, std_sets, steps};
+use super::{check_same, std_sets};
+use Expect::*;
+use Resize::*;
 use Step::*;
 use bucket_table::script::ScriptHash;
 use collections::hash_map::NotInserted;
 use collections::hash_set::HashSet;
 use std::alloc::Global;
+use std::ops::Range;
 use std::process::Abort;
 use std::test::Fail;
+use test_helpers::{At, steps};
 
 pub(super) type Set = HashSet<u64, ScriptHash>;
 
 /// A call on a set with its result, or what is seen of the set.
 pub(super) enum Step {
-    /// A key is inserted.
-    Inserts(u64),
-    /// A key is returned, since it is present.
-    Returns(u64),
-    /// These keys are inserted from an iterator.
-    Comes(&'static [u64]),
-    /// The key that is removed.
-    Removes(u64, Option<u64>),
-    /// A key is added, or it is present.
-    Adds(u64, bool),
-    /// A key is removed, or it is absent.
-    Discards(u64, bool),
-    /// The keys stay that a number divides. The function was called with so many.
-    Retains(u64, usize),
-    /// The minimum is to be raised by the first number, and is by the second.
-    Reserves(usize, usize),
-    /// Whether room is made for so many keys more.
-    MakesRoom(usize, bool),
-    /// The minimum is set to 0, and the slots that the keys don't take are freed.
-    Shrinks,
-    /// All keys are removed.
-    Clears,
+    /// Insert a key by `insert_new`.
+    InsertNew(u64),
+    /// Insert a key by `insert_new`, which returns it, since it is present.
+    InsertPresent(u64),
+    /// Insert these keys from an iterator.
+    ExtendBy(&'static [u64]),
+    /// Insert a key by `insert`: whether it was absent.
+    Insert(u64, bool),
+    /// Remove a key by `take`, which returns this one.
+    Take(u64, Option<u64>),
+    /// Remove a key by `remove`: whether it was present.
+    Remove(u64, bool),
+    /// Retain the keys that a number divides. The function is called with so many.
+    RetainMultiples(u64, usize),
+    /// Remove all keys.
+    Clear,
+    Resize(Resize),
+    Expect(Expect),
+}
+
+/// A call that sets the minimum or the slots.
+pub(super) enum Resize {
+    /// Raise the minimum by the first number: it is raised by the second.
+    RaiseMinimum(usize, usize),
+    /// Make room for so many keys more: whether that succeeds.
+    Reserve(usize, bool),
+    /// Set the minimum to 0, and free the slots that the keys don't take.
+    ShrinkToFit,
+}
+
+/// What is expected of a set.
+pub(super) enum Expect {
     /// Whether a key is present.
-    Holds(u64, bool),
+    Contains(u64, bool),
     /// The keys that `for_each` and a loop visit.
-    Has(Ranges),
+    Keys(Ranges),
     /// How many keys and slots there are.
-    Sees(usize, usize),
+    Counts(usize, usize),
 }
 
 const STEPS: &[Step] = steps! {
-    Sees(0, 0), Removes(1, None), Discards(1, false), Adds(1, true), Adds(1, false), Returns(1),
-    Inserts(2), Sees(2, 64),
-    Holds(1, true), Holds(3, false), Removes(1, Some(1)), Removes(1, None), Holds(1, false),
-    Holds(2, true), Clears, Sees(0, 0), Holds(2, false), Reserves(192, 192), Inserts(255),
-    Sees(1, 256), Shrinks, Sees(1, 64), Holds(255, true), Reserves(1 << 63, 1 << 63),
-    Reserves(1, 0), Returns(255), Has(&[(255, 256)]), Retains(5, 1), Has(&[(255, 256)]),
-    Inserts(7), Inserts(0), Inserts(14), Has(&[(0, 1), (7, 8), (14, 15), (255, 256)]),
-    Retains(7, 4), Has(&[(0, 1), (7, 8), (14, 15)]), Discards(14, true), Discards(14, false),
-    Has(&[(0, 1), (7, 8)]), Adds(14, true), Returns(7), Retains(100, 3), Has(&[(0, 1)]),
-    Clears, Has(&[]), Retains(1, 0), Shrinks, MakesRoom(53, true), Sees(0, 128), Inserts(3),
-    MakesRoom(103, true), Sees(1, 128), MakesRoom(104, true), Sees(1, 256),
-    MakesRoom(1 << 60, false), Adds(4, true), Sees(2, 256), Shrinks, Sees(2, 64), Holds(3, true),
-    Clears, Shrinks, Sees(0, 0)
+    Expect(Counts(0, 0)), Take(1, None), Remove(1, false), Insert(1, true), Insert(1, false),
+    InsertPresent(1), InsertNew(2), Expect(Counts(2, 64)), Expect(Contains(1, true)),
+    Expect(Contains(3, false)), Take(1, Some(1)), Take(1, None), Expect(Contains(1, false)),
+    Expect(Contains(2, true)), Clear, Expect(Counts(0, 64)), Expect(Contains(2, false)),
+    Resize(RaiseMinimum(192, 192)), InsertNew(255), Expect(Counts(1, 256)), Resize(ShrinkToFit),
+    Expect(Counts(1, 64)), Expect(Contains(255, true)), Resize(RaiseMinimum(1 << 63, 1 << 63)),
+    Resize(RaiseMinimum(1, 0)), InsertPresent(255), Expect(Keys(&[255..256])),
+    RetainMultiples(5, 1), Expect(Keys(&[255..256])), InsertNew(7), InsertNew(0), InsertNew(14),
+    Expect(Keys(&[0..1, 7..8, 14..15, 255..256])), RetainMultiples(7, 4),
+    Expect(Keys(&[0..1, 7..8, 14..15])), Remove(14, true), Remove(14, false),
+    Expect(Keys(&[0..1, 7..8])), Insert(14, true), InsertPresent(7), RetainMultiples(100, 3),
+    Expect(Keys(&[0..1])), Clear, Expect(Keys(&[])), RetainMultiples(1, 0), Resize(ShrinkToFit),
+    Resize(Reserve(53, true)), Expect(Counts(0, 128)), InsertNew(3), Resize(Reserve(103, true)),
+    Expect(Counts(1, 128)), Resize(Reserve(104, true)), Expect(Counts(1, 256)),
+    Resize(Reserve(1 << 60, false)), Insert(4, true), Expect(Counts(2, 256)), Resize(ShrinkToFit),
+    Expect(Counts(2, 64)), Expect(Contains(3, true)), Clear, Resize(ShrinkToFit),
+    Expect(Counts(0, 0))
 };
 
 #[test]
@@ -66,10 +84,10 @@ fn a_set_goes_through_its_story(rt: HostRuntime) -> Result<(), Fail> {
     Ok(())
 }
 
-// Keys from the first to one before the last are inserted. Whether all are.
-pub(super) fn fill_set(set: &mut Set, first: u64, last: u64) -> bool {
+// Inserts keys. Whether all were inserted.
+pub(super) fn fill_set(set: &mut Set, keys: &Range<u64>) -> bool {
     let mut are_in = true;
-    for key in first..last {
+    for key in keys.start..keys.end {
         are_in = set.insert_new(key).is_ok() && are_in;
     }
     are_in
@@ -84,21 +102,25 @@ fn play(rt: &impl Abort, alloc: Global, steps: &[Step]) {
     }
 }
 
-// Takes a step that puts keys or lists them, and compares its result.
+// Takes a step, and compares its result.
 fn take(rt: &impl Abort, alloc: Global, set: &mut Set, at: At, step: &Step) {
-    match *step {
-        Inserts(key) => check_same(rt, insert(set, key), Ok(()), at),
-        Comes(keys) => check_same(rt, come(set, keys), true, at),
-        Returns(key) => check_same(rt, insert(set, key), Err(Some(key)), at),
-        Adds(key, added) => check_same(rt, set.insert(key).ok(), Some(added), at),
-        Has(ranges) => check_keys(rt, alloc, set, at, ranges),
-        _ => change(rt, set, at, step),
+    match step {
+        InsertNew(key) => check_same(rt, insert_new(set, *key), Ok(()), at),
+        InsertPresent(key) => check_same(rt, insert_new(set, *key), Err(Some(*key)), at),
+        ExtendBy(keys) => check_same(rt, extend_by(set, keys), true, at),
+        Insert(key, added) => check_same(rt, set.insert(*key).ok(), Some(*added), at),
+        Take(key, taken) => check_same(rt, set.take(key), *taken, at),
+        Remove(key, gone) => check_same(rt, set.remove(key), *gone, at),
+        RetainMultiples(divisor, asked) => check_same(rt, retain(set, *divisor), *asked, at),
+        Clear => set.clear(),
+        Resize(call) => check_resize(rt, set, at, call),
+        Expect(wanted) => check_expected(rt, alloc, set, at, wanted),
     }
 }
 
 // Inserts a key. Returns the one that is returned because it is present, or none if allocation
 // fails.
-fn insert(set: &mut Set, key: u64) -> Result<(), Option<u64>> {
+fn insert_new(set: &mut Set, key: u64) -> Result<(), Option<u64>> {
     match set.insert_new(key) {
         Ok(()) => Ok(()),
         Err(NotInserted::Present(own, ())) => Err(Some(own)),
@@ -106,36 +128,31 @@ fn insert(set: &mut Set, key: u64) -> Result<(), Option<u64>> {
     }
 }
 
-// Keys are inserted from an iterator. Whether all were inserted.
-fn come(set: &mut Set, keys: &[u64]) -> bool {
+// Inserts keys from an iterator. Whether all were inserted.
+fn extend_by(set: &mut Set, keys: &[u64]) -> bool {
     set.try_extend(&mut keys.iter().copied()).is_ok()
 }
 
-// Takes a step that removes keys, and compares its result.
-fn change(rt: &impl Abort, set: &mut Set, at: At, step: &Step) {
-    match *step {
-        Removes(key, taken) => check_same(rt, set.take(&key), taken, at),
-        Discards(key, gone) => check_same(rt, set.remove(&key), gone, at),
-        Retains(divisor, asked) => check_same(rt, retain(set, divisor), asked, at),
-        Clears => set.clear(),
-        _ => resize(rt, set, at, step),
+// Makes a call that sets the minimum or the slots, and compares its result.
+fn check_resize(rt: &impl Abort, set: &mut Set, at: At, call: &Resize) {
+    match *call {
+        RaiseMinimum(by, raised) => check_same(rt, set.raise_minimum(by), raised, at),
+        Reserve(additional, made) => {
+            check_same(rt, set.try_reserve(additional).is_ok(), made, at);
+        }
+        ShrinkToFit => check_same(rt, set.shrink_to_fit().is_ok(), true, at),
     }
 }
 
-// Takes a step that sets the minimum or the slots, or looks.
-fn resize(rt: &impl Abort, set: &mut Set, at: At, step: &Step) {
-    match *step {
-        Reserves(additional, raised) => check_same(rt, set.raise_minimum(additional), raised, at),
-        MakesRoom(additional, made) => {
-            check_same(rt, set.try_reserve(additional).is_ok(), made, at);
-        }
-        Shrinks => check_same(rt, set.shrink_to_fit().is_ok(), true, at),
-        Holds(key, there) => check_same(rt, set.contains(&key), there, at),
-        Sees(keys, slots) => {
+// Compares what is seen of a set.
+fn check_expected(rt: &impl Abort, alloc: Global, set: &Set, at: At, wanted: &Expect) {
+    match *wanted {
+        Contains(key, there) => check_same(rt, set.contains(&key), there, at),
+        Keys(ranges) => check_keys(rt, alloc, set, at, ranges),
+        Counts(keys, slots) => {
             let found = (set.len(), set.is_empty(), set.capacity());
             check_same(rt, found, (keys, keys == 0, slots), at);
         }
-        _ => check_same(rt, true, false, (at, "no step")),
     }
 }
 

@@ -1,65 +1,72 @@
 //! What the standard library's tests of its map check: the same calls on this map, with the same
 //! answers. A comment names the test.
+use super::check_same;
+use super::maps::Expect::*;
 use super::maps::Step::*;
+use super::maps::Write::*;
 use super::maps::{Map, Story};
-use super::{check_same, steps};
 use bucket_table::script::ScriptHash;
 use collections::hash_map::HashMap;
 use std::process::Abort;
 use std::test::Fail;
+use test_helpers::steps;
 
 pub(super) const STORIES: &[Story] = steps! {
     // test_create_capacity_zero
     Story { name: "a map that was made for none takes a pair", hasher: ScriptHash::Id,
-        minimum: 0, steps: steps! { Upserts(1, 1, None), Holds(1, Some(1)), Holds(0, None) } },
+        minimum: 0, steps: steps! {
+            Upsert(1, 1, None), Expect(Value(1, Some(1))), Expect(Value(0, None)) } },
     // test_insert
     Story { name: "pairs are counted as they come", hasher: ScriptHash::Id, minimum: 0,
         steps: steps! {
-            Len(0), Upserts(1, 2, None), Len(1), Upserts(2, 4, None), Len(2), Holds(1, Some(2)),
-            Holds(2, Some(4)) } },
+            Expect(Len(0)), Upsert(1, 2, None), Expect(Len(1)), Upsert(2, 4, None), Expect(Len(2)),
+            Expect(Value(1, Some(2))), Expect(Value(2, Some(4))) } },
     // test_empty_remove, test_empty_iter
     Story { name: "an empty map gives nothing", hasher: ScriptHash::Id, minimum: 0,
-        steps: steps! { Removes(0, None), Len(0) } },
+        steps: steps! { Remove(0, None), Expect(Len(0)) } },
     // test_find_mut
     Story { name: "the value of one key is written", hasher: ScriptHash::Id, minimum: 0,
         steps: steps! {
-            Upserts(1, 12, None), Upserts(2, 8, None), Upserts(5, 14, None),
-            Lends(5, 100, Some(14)), Holds(5, Some(100)) } },
+            Upsert(1, 12, None), Upsert(2, 8, None), Upsert(5, 14, None),
+            Write(ByGetMut(5, 100, Some(14))), Expect(Value(5, Some(100))) } },
     // test_insert_overwrite
     Story { name: "a second value overwrites the first", hasher: ScriptHash::Id, minimum: 0,
         steps: steps! {
-            Upserts(1, 2, None), Holds(1, Some(2)), Upserts(1, 3, Some(2)), Holds(1, Some(3)) } },
+            Upsert(1, 2, None), Expect(Value(1, Some(2))), Upsert(1, 3, Some(2)),
+            Expect(Value(1, Some(3))) } },
     // test_insert_conflicts
     Story { name: "keys of one home keep their values", hasher: ScriptHash::Zero, minimum: 4,
         steps: steps! {
-            Upserts(1, 2, None), Upserts(5, 3, None), Upserts(9, 4, None), Holds(9, Some(4)),
-            Holds(5, Some(3)), Holds(1, Some(2)) } },
+            Upsert(1, 2, None), Upsert(5, 3, None), Upsert(9, 4, None), Expect(Value(9, Some(4))),
+            Expect(Value(5, Some(3))), Expect(Value(1, Some(2))) } },
     // test_conflict_remove
     Story { name: "a key goes and those of its home stay", hasher: ScriptHash::Zero, minimum: 4,
         steps: steps! {
-            Upserts(1, 2, None), Holds(1, Some(2)), Upserts(5, 3, None), Holds(1, Some(2)),
-            Holds(5, Some(3)), Upserts(9, 4, None), Holds(1, Some(2)), Holds(5, Some(3)),
-            Holds(9, Some(4)), Removes(1, Some((1, 2))), Holds(9, Some(4)), Holds(5, Some(3)) } },
+            Upsert(1, 2, None), Expect(Value(1, Some(2))), Upsert(5, 3, None),
+            Expect(Value(1, Some(2))), Expect(Value(5, Some(3))), Upsert(9, 4, None),
+            Expect(Value(1, Some(2))), Expect(Value(5, Some(3))), Expect(Value(9, Some(4))),
+            Remove(1, Some((1, 2))), Expect(Value(9, Some(4))), Expect(Value(5, Some(3))) } },
     // test_is_empty
     Story { name: "a map is empty once its pair has gone", hasher: ScriptHash::Id, minimum: 4,
-        steps: steps! { Upserts(1, 2, None), Len(1), Removes(1, Some((1, 2))), Len(0) } },
+        steps: steps! {
+            Upsert(1, 2, None), Expect(Len(1)), Remove(1, Some((1, 2))), Expect(Len(0)) } },
     // test_remove, test_remove_entry
     Story { name: "a pair is taken out once", hasher: ScriptHash::Id, minimum: 0, steps: steps! {
-        Upserts(1, 2, None), Removes(1, Some((1, 2))), Removes(1, None) } },
+        Upsert(1, 2, None), Remove(1, Some((1, 2))), Remove(1, None) } },
     // test_iterate
     Story { name: "each of 32 pairs is met once", hasher: ScriptHash::Id, minimum: 4,
-        steps: steps! { Multiplies(0, 32, 2), Len(32), Holds(31, Some(62)) } },
+        steps: steps! { InsertMultiples(0..32, 2), Expect(Len(32)), Expect(Value(31, Some(62))) } },
     // test_keys, test_values
     Story { name: "each of three pairs is met once", hasher: ScriptHash::Id, minimum: 0,
-        steps: steps! { Inserts(1, 97), Inserts(2, 98), Inserts(3, 99), Len(3) } },
+        steps: steps! { Insert(1, 97), Insert(2, 98), Insert(3, 99), Expect(Len(3)) } },
     // test_find
     Story { name: "a key is found once it is there", hasher: ScriptHash::Id, minimum: 0,
-        steps: steps! { Holds(1, None), Upserts(1, 2, None), Holds(1, Some(2)) } },
+        steps: steps! { Expect(Value(1, None)), Upsert(1, 2, None), Expect(Value(1, Some(2))) } },
     // test_retain
     Story { name: "even keys are retained with their values", hasher: ScriptHash::Id, minimum: 0,
         steps: steps! {
-            Multiplies(0, 100, 10), Keeps(2, 0, 100), Len(50), Holds(2, Some(20)),
-            Holds(4, Some(40)), Holds(6, Some(60)) } }
+            InsertMultiples(0..100, 10), Retain(2, 0, 100), Expect(Len(50)),
+            Expect(Value(2, Some(20))), Expect(Value(4, Some(40))), Expect(Value(6, Some(60))) } }
 };
 
 // How many keys are inserted and removed. Those of the test are 1000, in ten rounds.

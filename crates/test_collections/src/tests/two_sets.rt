@@ -3,16 +3,18 @@ ghost use Rattle.std.specs.Iterator.{IsFinite};
 
 use super::iterating::MOST_BUCKETS;
 use super::sets::{Set, fill_set};
-use super::{check_same, std_sets, steps};
+use super::{check_same, std_sets};
 use bucket_table::script::ScriptHash;
 use collections::hash_set::HashSet;
 use std::alloc::{AllocError, Global};
 use std::fmt::Debug;
+use std::ops::Range;
 use std::process::Abort;
 use std::test::Fail;
+use test_helpers::steps;
 
-/// Keys in order. Of each two the second is the first that is not meant.
-pub(super) type Ranges = &'static [(u64, u64)];
+/// Ranges of keys, in order.
+pub(super) type Ranges = &'static [Range<u64>];
 
 /// The keys of two sets, and those that four iterators yield.
 pub(super) struct Row {
@@ -38,22 +40,22 @@ pub(super) enum Call {
 const ROWS: &[Row] = steps! {
     Row { one: &[], other: &[], union: &[], intersection: &[], difference: &[],
         symmetric_difference: &[] },
-    Row { one: &[(1, 3)], other: &[], union: &[(1, 3)], intersection: &[], difference: &[(1, 3)],
-        symmetric_difference: &[(1, 3)] },
-    Row { one: &[], other: &[(1, 3)], union: &[(1, 3)], intersection: &[], difference: &[],
-        symmetric_difference: &[(1, 3)] },
-    Row { one: &[(1, 2), (3, 4)], other: &[(3, 4), (5, 6)], union: &[(1, 2), (3, 4), (5, 6)],
-        intersection: &[(3, 4)], difference: &[(1, 2)], symmetric_difference: &[(1, 2), (5, 6)] },
-    Row { one: &[(1, 4)], other: &[(2, 5)], union: &[(1, 5)], intersection: &[(2, 4)],
-        difference: &[(1, 2)], symmetric_difference: &[(1, 2), (4, 5)] },
-    Row { one: &[(4, 9)], other: &[(4, 9)], union: &[(4, 9)], intersection: &[(4, 9)],
+    Row { one: &[1..3], other: &[], union: &[1..3], intersection: &[], difference: &[1..3],
+        symmetric_difference: &[1..3] },
+    Row { one: &[], other: &[1..3], union: &[1..3], intersection: &[], difference: &[],
+        symmetric_difference: &[1..3] },
+    Row { one: &[1..2, 3..4], other: &[3..4, 5..6], union: &[1..2, 3..4, 5..6],
+        intersection: &[3..4], difference: &[1..2], symmetric_difference: &[1..2, 5..6] },
+    Row { one: &[1..4], other: &[2..5], union: &[1..5], intersection: &[2..4],
+        difference: &[1..2], symmetric_difference: &[1..2, 4..5] },
+    Row { one: &[4..9], other: &[4..9], union: &[4..9], intersection: &[4..9],
         difference: &[], symmetric_difference: &[] },
-    Row { one: &[(4, 9)], other: &[(0, 20)], union: &[(0, 20)], intersection: &[(4, 9)],
-        difference: &[], symmetric_difference: &[(0, 4), (9, 20)] },
-    Row { one: &[(128, 159), (0, 32)], other: &[(16, 48), (140, 170)],
-        union: &[(0, 48), (128, 170)], intersection: &[(16, 32), (140, 159)],
-        difference: &[(0, 16), (128, 140)],
-        symmetric_difference: &[(0, 16), (32, 48), (128, 140), (159, 170)] }
+    Row { one: &[4..9], other: &[0..20], union: &[0..20], intersection: &[4..9],
+        difference: &[], symmetric_difference: &[0..4, 9..20] },
+    Row { one: &[128..159, 0..32], other: &[16..48, 140..170],
+        union: &[0..48, 128..170], intersection: &[16..32, 140..159],
+        difference: &[0..16, 128..140],
+        symmetric_difference: &[0..16, 32..48, 128..140, 159..170] }
 };
 
 #[test]
@@ -104,7 +106,7 @@ pub(super) fn check_listed<R: Debug + Drop>(
     rt: &impl Abort,
     alloc: Global,
     mut keys: Vec<u64>,
-    ranges: &[(u64, u64)],
+    ranges: &[Range<u64>],
     row: R,
 ) {
     let are_sorted = keys.sort().is_ok();
@@ -114,8 +116,8 @@ pub(super) fn check_listed<R: Debug + Drop>(
 // A set of keys.
 pub(super) fn set_of(alloc: Global, hasher: ScriptHash, ranges: Ranges) -> Set {
     let mut set = HashSet::with_hasher(alloc, hasher);
-    for (from, to) in ranges {
-        let _ = fill_set(&mut set, *from, *to);
+    for keys in ranges {
+        let _ = fill_set(&mut set, keys);
     }
     set
 }
@@ -210,10 +212,10 @@ fn put(keys: &mut Vec<u64>, key: Option<&u64>) {
 }
 
 // The keys of ranges.
-fn listed(alloc: Global, ranges: &[(u64, u64)]) -> Vec<u64> {
+fn listed(alloc: Global, ranges: &[Range<u64>]) -> Vec<u64> {
     let mut keys = Vec::new(alloc);
-    for (from, to) in ranges {
-        for key in *from..*to {
+    for range in ranges {
+        for key in range.start..range.end {
             let _ = keys.push(key);
         }
     }

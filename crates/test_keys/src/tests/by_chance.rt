@@ -1,5 +1,5 @@
-//! Random calls on a map of numbers, compared with a map of the standard library. Times with many
-//! insertions and times with many removals alternate, so that the map gets longer arrays and
+//! Random calls on a map of numbers, compared with a map of the standard library. Phases in which
+//! the map grows and phases in which it shrinks alternate, so that it gets longer arrays and
 //! shorter ones again.
 use super::check_same;
 use bucket_table::script::ScriptHash;
@@ -8,7 +8,7 @@ use std::alloc::Global;
 use std::collections::BTreeMap;
 use std::process::Abort;
 use std::test::Fail;
-use test_helpers::Chance;
+use test_helpers::{Chance, KeyCall, is_growing, spread};
 
 // How many calls there are under each hash.
 const CALLS: [(ScriptHash, u64); 3] = [
@@ -19,14 +19,11 @@ const CALLS: [(ScriptHash, u64); 3] = [
 
 const KEYS: u64 = 300;
 
-// How many calls mostly insert pairs, and how many then mostly remove them.
-const TIDE: u64 = 2500;
+// How many calls a phase has.
+const PHASE: u64 = 2500;
 
 // After how many calls the maps are compared as a whole.
 const WHOLE: u64 = 500;
-
-// An odd number with its bits spread, so that keys take homes all over the array.
-const SPREADING: u64 = 11400714819323198485;
 
 /// Two maps that have the same pairs, and a sequence of numbers that chooses the calls.
 #[derive(Drop)]
@@ -46,19 +43,18 @@ impl Course {
     }
 
     fn key(&mut self) -> u64 {
-        (self.chance.next() % KEYS).wrapping_mul(SPREADING)
+        spread(self.chance.next() % KEYS)
     }
 
-    // A call by a key. In times of insertions few pairs are removed, in times of removals none is
-    // inserted.
-    fn call(&mut self, rt: &impl Abort, comes: bool) {
+    // A call by a key, in a phase in which the map grows or shrinks.
+    fn call(&mut self, rt: &impl Abort, grows: bool) {
         let (key, value) = (self.key(), self.chance.next());
-        match (self.chance.next() % 16, comes) {
-            (0..=3, true) => self.insert(rt, key, value),
-            (4..=6, true) => self.upsert(rt, key, value),
-            (0..=6, false) | (7..=8, _) => self.remove(rt, key),
-            (9..=11, _) => self.update(rt, key, value),
-            _ => {
+        match self.chance.key_call(grows) {
+            KeyCall::Insert => self.insert(rt, key, value),
+            KeyCall::Upsert => self.upsert(rt, key, value),
+            KeyCall::Remove => self.remove(rt, key),
+            KeyCall::Update => self.update(rt, key, value),
+            KeyCall::Get => {
                 let found = self.map.get(&key).copied();
                 check_same(rt, found, self.std.get(&key).copied(), ("get", key));
             }
@@ -145,7 +141,7 @@ fn a_map_has_the_pairs_of_a_btree_map(rt: HostRuntime) -> Result<(), Fail> {
         let mut course = Course::new(rt.alloc(), hasher);
         let mut most: usize = 0;
         for number in 0..calls {
-            course.call(&rt, number / TIDE % 2 == 0);
+            course.call(&rt, is_growing(number, PHASE));
             most = most.max(course.map.capacity());
             if number % WHOLE == 0 {
                 course.call_on_all(&rt);

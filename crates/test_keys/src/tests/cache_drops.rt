@@ -1,29 +1,30 @@
 //! Values that are counted, in a cache: each is dropped once.
-use super::{At, check_same, steps};
+use super::check_same;
 use Step::*;
 use bucket_table::script::ScriptHash;
 use collections::hash_cache::HashCache;
 use std::process::Abort;
 use std::rc::Rc;
 use std::test::Fail;
+use test_helpers::{At, steps};
 
 type Cache = HashCache<u64, Rc<u64>, ScriptHash>;
 
 /// A call on a cache, all of whose values are clones of one, or what is seen of it.
 enum Step {
-    /// A clone is inserted under each key below a number. Each adds a pair and a clone, up to 32 of
+    /// Insert a clone under each key below a number. Each adds a pair and a clone, up to 32 of
     /// each.
-    Fills(u64),
-    /// A clone is inserted under a key: whether it succeeded.
-    Comes(u64, bool),
-    /// A key is removed.
-    Removes(u64),
-    /// The keys below 16 stay.
-    Retains,
-    /// All pairs are removed.
-    Clears,
-    /// How many pairs there are, and how many clones.
-    Sees(usize),
+    FillBelow(u64),
+    /// Insert a clone under a key: whether it succeeded.
+    Insert(u64, bool),
+    /// Remove a key.
+    Remove(u64),
+    /// Retain the keys below 16.
+    RetainBelow16,
+    /// Remove all pairs.
+    Clear,
+    /// Expect so many pairs, and as many clones.
+    ExpectPairs(usize),
 }
 
 /// A name, whether clones are inserted by `upsert` or by `put`, and what happens on a new cache.
@@ -32,9 +33,10 @@ type Story = (&'static str, bool, &'static [Step]);
 // All keys have one bucket, of 32 own slots.
 const STORIES: &[Story] = steps! {
     ("puts", false, steps! {
-        Fills(40), Comes(39, false), Sees(32), Removes(39), Sees(31), Clears, Sees(0),
-        Comes(39, true), Sees(1) }),
-    ("upserts", true, steps! { Fills(40), Comes(39, true), Sees(32), Retains, Sees(8) })
+        FillBelow(40), Insert(39, false), ExpectPairs(32), Remove(39), ExpectPairs(31), Clear,
+        ExpectPairs(0), Insert(39, true), ExpectPairs(1) }),
+    ("upserts", true, steps! {
+        FillBelow(40), Insert(39, true), ExpectPairs(32), RetainBelow16, ExpectPairs(8) })
 };
 
 #[test]
@@ -54,12 +56,12 @@ fn each_value_of_a_cache_is_dropped_once(rt: HostRuntime) -> Result<(), Fail> {
 // Takes a step, and compares its result.
 fn take(rt: &impl Abort, cache: &mut Cache, counted: &Rc<u64>, at: At, upserts: bool, step: &Step) {
     match *step {
-        Fills(to) => fill(rt, cache, counted, upserts, to),
-        Comes(key, is_in) => check_same(rt, give(cache, counted, upserts, key), is_in, at),
-        Removes(key) => drop(cache.remove(&key)),
-        Retains => cache.retain(&mut is_below_16),
-        Clears => cache.clear(),
-        Sees(values) => {
+        FillBelow(to) => fill(rt, cache, counted, upserts, to),
+        Insert(key, is_in) => check_same(rt, give(cache, counted, upserts, key), is_in, at),
+        Remove(key) => drop(cache.remove(&key)),
+        RetainBelow16 => cache.retain(&mut is_below_16),
+        Clear => cache.clear(),
+        ExpectPairs(values) => {
             let found = (cache.len(), Rc::strong_count(counted));
             check_same(rt, found, (values, values.saturating_add(1)), at);
         }

@@ -1,5 +1,5 @@
 //! Values that are counted, under words as keys: each is dropped once, when its pair is removed.
-use super::{check_same, steps};
+use super::check_same;
 use Step::*;
 use bucket_table::key_hash::StdHash;
 use collections::hash_map::HashMap;
@@ -8,32 +8,35 @@ use std::hash::{BuildHasherDefault, FoldHasher};
 use std::process::Abort;
 use std::rc::Rc;
 use std::test::Fail;
+use test_helpers::steps;
 
 type Words = HashMap<&'static str, Rc<u64>, StdHash<BuildHasherDefault<FoldHasher>>>;
 
 /// A call on a map, and how many values there are when it has returned and its answer is dropped.
 enum Step {
-    /// A word is inserted with a clone, or the clone is dropped if the word is present.
+    /// Insert a word with a clone, which is dropped if the word is present.
     Insert(&'static str, usize),
-    /// A word gets a clone, and the earlier value is dropped.
+    /// Give a word a clone. The earlier value is dropped.
     Upsert(&'static str, usize),
-    /// A clone replaces the value of a word that is present, and else is dropped.
+    /// Replace the value of a present word by a clone, which is dropped if the word is absent.
     Update(&'static str, usize),
-    /// A clone is written through a mutable reference to a word's value, and else is dropped.
-    Lend(&'static str, usize),
-    /// All words but one are removed.
-    Keep(&'static str, usize),
-    /// A word is removed.
+    /// Write a clone through a mutable reference to a word's value. It is dropped if the word is
+    /// absent.
+    WriteByGetMut(&'static str, usize),
+    /// Remove all words but one.
+    RetainOnly(&'static str, usize),
+    /// Remove a word.
     Remove(&'static str, usize),
-    /// All words are removed.
+    /// Remove all words.
     Clear,
 }
 
 const STEPS: &[Step] = steps! {
     Insert("", 1), Insert("ab", 2), Insert("a", 3), Insert("ab", 3), Upsert("ab", 3),
     Upsert("b", 4), Update("ab", 4), Update("c", 4), Remove("ab", 3), Remove("ab", 3),
-    Insert("ab", 4), Lend("ab", 4), Lend("c", 4), Keep("a", 1), Insert("ab", 2), Insert("b", 3),
-    Keep("c", 0), Keep("", 0), Insert("ab", 1), Clear, Clear, Upsert("a", 1), Insert("b", 2)
+    Insert("ab", 4), WriteByGetMut("ab", 4), WriteByGetMut("c", 4), RetainOnly("a", 1),
+    Insert("ab", 2), Insert("b", 3), RetainOnly("c", 0), RetainOnly("", 0), Insert("ab", 1), Clear,
+    Clear, Upsert("a", 1), Insert("b", 2)
 };
 
 #[test]
@@ -75,13 +78,24 @@ fn take(words: &mut Words, value: Rc<u64>, step: &Step) -> usize {
             update(words, word, value);
             left
         }
-        Lend(word, left) => {
+        WriteByGetMut(word, left) => {
             if let Some(own) = words.get_mut(&word) {
                 *own = value;
             }
             left
         }
-        _ => take_words(words, step),
+        RetainOnly(word, left) => {
+            retain_only(words, word);
+            left
+        }
+        Remove(word, left) => {
+            let _ = words.remove(&word);
+            left
+        }
+        Clear => {
+            words.clear();
+            0
+        }
     }
 }
 
@@ -89,20 +103,7 @@ fn update(words: &mut Words, word: &'static str, value: Rc<u64>) {
     let _ = words.update(&word, |_own: &&str, own: &mut Rc<u64>| *own = value);
 }
 
-// Takes a step that removes words. Returns how many are to be left.
-fn take_words(words: &mut Words, step: &Step) -> usize {
-    match step {
-        Keep(word, left) => {
-            words.retain(&mut |own: &&str, _value: &mut Rc<u64>| *own == *word);
-            *left
-        }
-        Remove(word, left) => {
-            let _ = words.remove(word);
-            *left
-        }
-        _ => {
-            words.clear();
-            0
-        }
-    }
+// Removes all words but one.
+fn retain_only(words: &mut Words, word: &'static str) {
+    words.retain(&mut |own: &&str, _value: &mut Rc<u64>| *own == word);
 }

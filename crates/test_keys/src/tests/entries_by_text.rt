@@ -1,46 +1,55 @@
 //! Stories of the places of words, found by texts: a word is made only if the map hasn't it.
+use super::check_same;
 use super::forms::owned;
-use super::{At, check_same, steps};
+use Expect::*;
 use Step::*;
 use collections::hash_map::HashMap;
 use collections::hash_map::entry::EntryRef;
 use std::alloc::Global;
 use std::process::Abort;
 use std::test::Fail;
+use test_helpers::{At, steps};
 
 /// A map from words to numbers.
 type Words = HashMap<String, u64>;
 
 /// What is done at a word's place.
 enum Step {
-    /// A number is inserted if the word is absent, and then one is added to the number: this is the
-    /// result.
-    Counts(&'static str, u64, u64),
-    /// The word is made and inserted with a number if it is absent: whether it was.
-    Puts(&'static str, u64, bool),
-    /// The place of the first word takes no other: whether the second was inserted.
-    Swaps(&'static str, &'static str, bool),
-    /// The number of a present word is changed, and this was the earlier one.
-    Writes(&'static str, u64, Option<u64>),
-    /// One is added to the number of a present word: what it was, and is.
-    Raises(&'static str, Option<(u64, u64)>),
-    /// One is added through the entry's mutable reference: what it is then.
-    Lends(&'static str, Option<u64>),
-    /// The number of the word that is taken out.
-    Takes(&'static str, Option<u64>),
+    /// Insert a number if the word is absent, and then add one to the number: this is the result.
+    InsertAndAddOne(&'static str, u64, u64),
+    /// Make the word and insert it with a number if it is absent: whether it was.
+    InsertVacant(&'static str, u64, bool),
+    /// Insert the second word at the place of the first, which takes no other: whether it was
+    /// inserted.
+    InsertOther(&'static str, &'static str, bool),
+    /// Change the number of a present word: this was the earlier one.
+    Replace(&'static str, u64, Option<u64>),
+    /// Add one to the number of a present word: what it was, and is.
+    AddOne(&'static str, Option<(u64, u64)>),
+    /// Add one through the entry's mutable reference: what it is then.
+    AddOneByGetMut(&'static str, Option<u64>),
+    /// Remove the word: its number.
+    Remove(&'static str, Option<u64>),
+    Expect(Expect),
+}
+
+/// What is expected of the map.
+enum Expect {
     /// The number of a word.
-    Holds(&'static str, Option<u64>),
+    Number(&'static str, Option<u64>),
     /// How many words there are.
     Len(usize),
 }
 
 const STEPS: &[Step] = steps! {
-    Swaps("Ann", "Bob", false), Len(0), Takes("Ann", None), Writes("Ann", 1, None),
-    Raises("Ann", None), Len(0), Counts("Ann", 4, 5), Counts("Ann", 4, 6), Counts("An", 0, 1),
-    Puts("Ann", 9, false), Puts("", 9, true), Puts("", 8, false), Len(3), Writes("Ann", 7, Some(6)),
-    Raises("Ann", Some((7, 8))), Raises("ann", None), Holds("Ann", Some(8)), Holds("An", Some(1)),
-    Holds("", Some(9)), Lends("An", Some(2)), Lends("an", None), Holds("An", Some(2)),
-    Takes("Ann", Some(8)), Takes("Ann", None), Holds("Ann", None), Counts("Ann", 2, 3), Len(3)
+    InsertOther("Ann", "Bob", false), Expect(Len(0)), Remove("Ann", None), Replace("Ann", 1, None),
+    AddOne("Ann", None), Expect(Len(0)), InsertAndAddOne("Ann", 4, 5), InsertAndAddOne("Ann", 4, 6),
+    InsertAndAddOne("An", 0, 1), InsertVacant("Ann", 9, false), InsertVacant("", 9, true),
+    InsertVacant("", 8, false), Expect(Len(3)), Replace("Ann", 7, Some(6)),
+    AddOne("Ann", Some((7, 8))), AddOne("ann", None), Expect(Number("Ann", Some(8))),
+    Expect(Number("An", Some(1))), Expect(Number("", Some(9))), AddOneByGetMut("An", Some(2)),
+    AddOneByGetMut("an", None), Expect(Number("An", Some(2))), Remove("Ann", Some(8)),
+    Remove("Ann", None), Expect(Number("Ann", None)), InsertAndAddOne("Ann", 2, 3), Expect(Len(3))
 };
 
 #[test]
@@ -56,32 +65,38 @@ fn play(rt: &impl Abort, alloc: Global, words: &mut Words) {
     }
 }
 
-// Takes a step that may put a word, and compares its result.
+// Takes a step, and compares its result.
 fn take(rt: &impl Abort, alloc: Global, words: &mut Words, at: At, step: &Step) {
-    match *step {
-        Counts(word, number, after) => {
-            check_same(rt, count(alloc, words, word, number), Some(after), at);
+    match step {
+        InsertAndAddOne(word, number, after) => {
+            check_same(rt, count(alloc, words, word, *number), Some(*after), at);
         }
-        Puts(word, number, vacant) => {
-            check_same(rt, put(words, word, owned(alloc, word), number), vacant, at);
+        InsertVacant(word, number, vacant) => {
+            check_same(
+                rt,
+                put(words, word, owned(alloc, word), *number),
+                *vacant,
+                at,
+            );
         }
-        Swaps(word, other, came) => {
-            check_same(rt, put(words, word, owned(alloc, other), 0), came, at);
+        InsertOther(word, other, came) => {
+            check_same(rt, put(words, word, owned(alloc, other), 0), *came, at);
         }
-        _ => change(rt, words, at, step),
+        Replace(word, number, earlier) => {
+            check_same(rt, write(words, word, *number), *earlier, at);
+        }
+        AddOne(word, numbers) => check_same(rt, raise(words, word), *numbers, at),
+        AddOneByGetMut(word, number) => check_same(rt, lend(words, word), *number, at),
+        Remove(word, number) => check_same(rt, take_out(words, word), *number, at),
+        Expect(wanted) => check_expected(rt, words, at, wanted),
     }
 }
 
-// Takes another step, and compares its result.
-fn change(rt: &impl Abort, words: &mut Words, at: At, step: &Step) {
-    match *step {
-        Writes(word, number, earlier) => check_same(rt, write(words, word, number), earlier, at),
-        Raises(word, numbers) => check_same(rt, raise(words, word), numbers, at),
-        Lends(word, number) => check_same(rt, lend(words, word), number, at),
-        Takes(word, number) => check_same(rt, take_out(words, word), number, at),
-        Holds(word, number) => check_same(rt, number_of(words, word), number, at),
+// Compares what is seen of the map.
+fn check_expected(rt: &impl Abort, words: &Words, at: At, wanted: &Expect) {
+    match *wanted {
+        Number(word, number) => check_same(rt, number_of(words, word), number, at),
         Len(count) => check_same(rt, words.len(), count, at),
-        _ => check_same(rt, true, false, (at, "no step")),
     }
 }
 

@@ -1,5 +1,5 @@
 //! Words that are changed and removed by texts, and lists by slices, in a collection of each kind.
-use super::{At, check_same, steps, write};
+use super::check_same;
 use Step::*;
 use collections::hash_cache::HashCache;
 use collections::hash_index::HashIndex;
@@ -9,30 +9,32 @@ use std::alloc::Global;
 use std::mem;
 use std::process::Abort;
 use std::test::Fail;
+use test_helpers::{At, overwrite, steps};
 
 /// A call on a collection of each kind, and the earlier number.
 enum Step {
-    /// A word is inserted with a number.
-    Puts(&'static str, u64),
-    /// `get` finds it.
-    Gets(&'static str, Option<u64>),
-    /// `update` writes another number.
-    Updates(&'static str, u64, Option<u64>),
-    /// Another value is written through `get_mut`.
-    Writes(&'static str, u64, Option<u64>),
-    /// `remove_if` removes it if it is even.
-    RemovesEven(&'static str, Option<u64>),
-    /// It is removed.
-    Removes(&'static str, Option<u64>),
+    /// Insert a word with a number.
+    Insert(&'static str, u64),
+    /// Find it by `get`.
+    Get(&'static str, Option<u64>),
+    /// Write another number by `update`.
+    Update(&'static str, u64, Option<u64>),
+    /// Write another number through `get_mut`.
+    WriteByGetMut(&'static str, u64, Option<u64>),
+    /// Remove it by `remove_if` if it is even.
+    RemoveIfEven(&'static str, Option<u64>),
+    /// Remove it.
+    Remove(&'static str, Option<u64>),
 }
 
 const STEPS: &[Step] = steps! {
-    Removes("Ann", None), Updates("Ann", 1, None), Writes("", 1, None), Puts("Ann", 1), Puts("", 2),
-    Puts("Bob", 3), Gets("Ann", Some(1)), Updates("Ann", 4, Some(1)), Writes("Ann", 5, Some(4)),
-    Writes("An", 6, None), Updates("Anna", 6, None), Gets("Ann", Some(5)), Gets("Bob", Some(3)),
-    RemovesEven("Ann", None), Removes("ann", None), Removes("Ann", Some(5)), Removes("Ann", None),
-    Gets("Ann", None), RemovesEven("", Some(2)), Removes("", None), Gets("Bob", Some(3)),
-    Removes("Bob", Some(3)), Puts("Ann", 7), Removes("Ann", Some(7))
+    Remove("Ann", None), Update("Ann", 1, None), WriteByGetMut("", 1, None), Insert("Ann", 1),
+    Insert("", 2), Insert("Bob", 3), Get("Ann", Some(1)), Update("Ann", 4, Some(1)),
+    WriteByGetMut("Ann", 5, Some(4)), WriteByGetMut("An", 6, None), Update("Anna", 6, None),
+    Get("Ann", Some(5)), Get("Bob", Some(3)), RemoveIfEven("Ann", None), Remove("ann", None),
+    Remove("Ann", Some(5)), Remove("Ann", None), Get("Ann", None), RemoveIfEven("", Some(2)),
+    Remove("", None), Get("Bob", Some(3)), Remove("Bob", Some(3)), Insert("Ann", 7),
+    Remove("Ann", Some(7))
 };
 
 /// A collection of each kind.
@@ -65,38 +67,30 @@ fn words_are_changed_and_removed_by_texts(rt: HostRuntime) -> Result<(), Fail> {
 // Takes a step, and compares the earlier number.
 fn take(rt: &impl Abort, alloc: Global, words: &mut Words, at: At, step: &Step) {
     match *step {
-        Puts(word, number) => check_same(rt, put(alloc, words, word, number), true, at),
-        Gets(word, number) => {
+        Insert(word, number) => check_same(rt, put(alloc, words, word, number), true, at),
+        Get(word, number) => {
             check_same(rt, get(words, word), (number, number), (at, "map, cache"));
             let there = (words.set.contains(word), words.index.contains(word));
             let wanted = (number.is_some(), number.is_some());
             check_same(rt, there, wanted, (at, "set, index"));
         }
-        Updates(word, later, number) => {
+        Update(word, later, number) => {
             check_same(rt, update(words, word, later), (number, number), at);
         }
-        Writes(word, later, number) => {
+        WriteByGetMut(word, later, number) => {
             check_same(rt, write_both(words, word, later), (number, number), at);
         }
-        _ => remove(rt, words, at, step),
-    }
-}
-
-// Takes a step that removes a word.
-fn remove(rt: &impl Abort, words: &mut Words, at: At, step: &Step) {
-    match *step {
-        RemovesEven(word, number) => {
+        RemoveIfEven(word, number) => {
             let found = number_of(words.map.remove_if(word, is_even));
             check_same(rt, found, number, (at, "map"));
             if number.is_some() {
                 remove_elsewhere(rt, words, at, word, number);
             }
         }
-        Removes(word, number) => {
+        Remove(word, number) => {
             check_same(rt, number_of(words.map.remove(word)), number, (at, "map"));
             remove_elsewhere(rt, words, at, word, number);
         }
-        _ => check_same(rt, true, false, (at, "no step")),
     }
 }
 
@@ -137,8 +131,8 @@ fn update(words: &mut Words, word: &str, later: u64) -> (Option<u64>, Option<u64
 // Replaces the number of a word through `get_mut`. Returns the earlier ones, of the map and of the
 // cache.
 fn write_both(words: &mut Words, word: &str, later: u64) -> (Option<u64>, Option<u64>) {
-    let of_map = write(words.map.get_mut(word), later);
-    (of_map, write(words.cache.get_mut(word), later))
+    let of_map = overwrite(words.map.get_mut(word), later);
+    (of_map, overwrite(words.cache.get_mut(word), later))
 }
 
 // Removes a word from the set, the index and the cache.
@@ -213,7 +207,7 @@ fn owned_list(alloc: Global, list: &[u8]) -> Vec<u8> {
 
 // Writes 9 over the number of a list, and removes the list twice. Returns the earlier numbers.
 fn change_list(map: &mut Lists, list: &[u8]) -> (Option<u64>, Option<u64>, Option<u64>) {
-    let earlier = write(map.get_mut(list), 9);
+    let earlier = overwrite(map.get_mut(list), 9);
     (
         earlier,
         number_of(map.remove(list)),

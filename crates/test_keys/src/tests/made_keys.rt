@@ -1,6 +1,7 @@
 //! Stories of the places of words whose keys the map makes, if it hasn't the words.
+use super::check_same;
 use super::forms::owned;
-use super::{At, check_same, steps};
+use Expect::*;
 use Step::*;
 use collections::hash_map::HashMap;
 use collections::hash_map::entry::EntryRef;
@@ -9,6 +10,7 @@ use std::alloc::{AllocError, Global};
 use std::hash::BuildHasher;
 use std::process::Abort;
 use std::test::Fail;
+use test_helpers::{At, steps};
 
 /// A map from words to numbers.
 type Words = HashMap<String, u64>;
@@ -49,34 +51,41 @@ impl<S: BuildHasher> ToKey<String, StdHash<S>> for Unmade {
 
 /// What is done at a word's place, by its text if nothing else is said.
 enum Step {
-    /// `or_insert` inserts a number if the word is absent. Then one is added: this is the result.
-    Adds(&'static str, u64, u64),
+    /// Insert a number by `or_insert` if the word is absent. Then add one: this is the result.
+    OrInsert(&'static str, u64, u64),
     /// The same by another word that is equal.
-    AddsEqual(&'static str, u64, u64),
+    OrInsertByEqual(&'static str, u64, u64),
     /// The same by a text of which no word can be made: the number is returned if the word is
     /// absent.
-    Finds(&'static str, u64, Result<u64, u64>),
+    OrInsertUnmade(&'static str, u64, Result<u64, u64>),
     /// The same by `or_insert_with`, and whether its function was called.
-    Makes(&'static str, u64, (bool, u64)),
+    OrInsertWith(&'static str, u64, (bool, u64)),
     /// The same by `or_default`.
-    Starts(&'static str, u64),
-    /// A number is inserted if the place is vacant: whether it was.
-    Fills(&'static str, u64, bool),
-    /// The number of the word that is taken out.
-    Takes(&'static str, Option<u64>),
+    OrDefault(&'static str, u64),
+    /// Insert a number if the place is vacant: whether it was.
+    InsertVacant(&'static str, u64, bool),
+    /// Remove the word: its number.
+    Remove(&'static str, Option<u64>),
+    Expect(Expect),
+}
+
+/// What is expected of the map.
+enum Expect {
     /// The number of a word.
-    Holds(&'static str, Option<u64>),
+    Number(&'static str, Option<u64>),
     /// How many words there are.
     Len(usize),
 }
 
 const STEPS: &[Step] = steps! {
-    Finds("Ann", 3, Err(3)), Len(0), Adds("Ann", 3, 4), Adds("Ann", 3, 5), Finds("Ann", 9, Ok(6)),
-    Finds("An", 9, Err(9)), Len(1), Makes("Ann", 1, (false, 7)), Makes("Bob", 1, (true, 2)),
-    Starts("", 1), Starts("", 2), Fills("Bob", 8, false), Fills("An", 8, true), Len(4),
-    Holds("Ann", Some(7)), Holds("Bob", Some(2)), Holds("", Some(2)), Holds("An", Some(8)),
-    AddsEqual("Ann", 9, 8), AddsEqual("ann", 9, 10), Len(5), Takes("Ann", Some(8)),
-    Finds("Ann", 9, Err(9)), Holds("Ann", None), Adds("Ann", 0, 1), Len(5)
+    OrInsertUnmade("Ann", 3, Err(3)), Expect(Len(0)), OrInsert("Ann", 3, 4), OrInsert("Ann", 3, 5),
+    OrInsertUnmade("Ann", 9, Ok(6)), OrInsertUnmade("An", 9, Err(9)), Expect(Len(1)),
+    OrInsertWith("Ann", 1, (false, 7)), OrInsertWith("Bob", 1, (true, 2)), OrDefault("", 1),
+    OrDefault("", 2), InsertVacant("Bob", 8, false), InsertVacant("An", 8, true), Expect(Len(4)),
+    Expect(Number("Ann", Some(7))), Expect(Number("Bob", Some(2))), Expect(Number("", Some(2))),
+    Expect(Number("An", Some(8))), OrInsertByEqual("Ann", 9, 8), OrInsertByEqual("ann", 9, 10),
+    Expect(Len(5)), Remove("Ann", Some(8)), OrInsertUnmade("Ann", 9, Err(9)),
+    Expect(Number("Ann", None)), OrInsert("Ann", 0, 1), Expect(Len(5))
 };
 
 #[test]
@@ -94,25 +103,34 @@ fn play(rt: &impl Abort, alloc: Global, words: &mut Words) {
 
 // Takes a step, and compares its result.
 fn take(rt: &impl Abort, alloc: Global, words: &mut Words, at: At, step: &Step) {
-    match *step {
-        Adds(word, number, after) => {
-            check_same(rt, add(alloc, words, word, number), Ok(after), at);
+    match step {
+        OrInsert(word, number, after) => {
+            check_same(rt, add(alloc, words, word, *number), Ok(*after), at);
         }
-        AddsEqual(word, number, after) => {
-            check_same(rt, add_equal(alloc, words, word, number), Ok(after), at);
+        OrInsertByEqual(word, number, after) => {
+            check_same(rt, add_equal(alloc, words, word, *number), Ok(*after), at);
         }
-        Finds(word, number, after) => check_same(rt, find(alloc, words, word, number), after, at),
-        Makes(word, number, after) => {
-            check_same(rt, make(alloc, words, word, number), Some(after), at);
+        OrInsertUnmade(word, number, after) => {
+            check_same(rt, find(alloc, words, word, *number), *after, at);
         }
-        Starts(word, after) => check_same(rt, start(alloc, words, word), Some(after), at),
-        Fills(word, number, vacant) => {
-            check_same(rt, fill(alloc, words, word, number), vacant, at);
+        OrInsertWith(word, number, after) => {
+            check_same(rt, make(alloc, words, word, *number), Some(*after), at);
         }
-        Takes(word, number) => {
-            check_same(rt, words.remove(word).map(|pair| pair.1), number, at);
+        OrDefault(word, after) => check_same(rt, start(alloc, words, word), Some(*after), at),
+        InsertVacant(word, number, vacant) => {
+            check_same(rt, fill(alloc, words, word, *number), *vacant, at);
         }
-        Holds(word, number) => check_same(rt, words.get(word).copied(), number, at),
+        Remove(word, number) => {
+            check_same(rt, words.remove(*word).map(|pair| pair.1), *number, at);
+        }
+        Expect(wanted) => check_expected(rt, words, at, wanted),
+    }
+}
+
+// Compares what is seen of the map.
+fn check_expected(rt: &impl Abort, words: &Words, at: At, wanted: &Expect) {
+    match *wanted {
+        Number(word, number) => check_same(rt, words.get(word).copied(), number, at),
         Len(count) => check_same(rt, words.len(), count, at),
     }
 }

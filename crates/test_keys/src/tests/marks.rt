@@ -1,40 +1,42 @@
 //! Values that are counted, in an index: a removed one stays in its tombstone, and is dropped once,
 //! by an insertion that needs room, when the pairs are cleared, or with its array. Few wait so.
-use super::{At, check_same, steps};
+use super::check_same;
 use Step::*;
 use bucket_table::script::ScriptHash;
 use collections::KeyHash;
 use collections::hash_index::HashIndex;
+use std::ops::Range;
 use std::process::Abort;
 use std::rc::Rc;
 use std::test::Fail;
+use test_helpers::{At, steps};
 
 type Index = HashIndex<u64, Rc<u64>, ScriptHash>;
 
-/// A call, or what is seen of the index. Of two keys the second is the first that is not meant.
+/// A call, or what is seen of the index.
 enum Step {
-    /// Keys are inserted.
-    Fills(u64, u64),
-    /// A key is inserted.
-    Inserts(u64),
-    /// A key is present, and its new value is dropped.
-    Returns(u64),
-    /// A pair is removed, if its key is present.
-    Removes(u64, bool),
-    /// A pair is removed by `remove_with`, and a clone of its value dropped, if its key is present.
-    Reads(u64, bool),
-    /// The pairs with odd keys are removed.
-    Retains,
-    /// A pair is removed by `remove_if` if its function returns this; its key is present.
-    Asks(u64, bool),
-    /// The minimum is raised.
-    Reserves(usize),
-    /// All pairs are removed.
-    Clears,
-    /// A copy has so many pairs, and so many values there are then.
-    Copies(usize, usize),
-    /// How many pairs and how many values there are.
-    Sees(usize, usize),
+    /// Insert each key of a range.
+    InsertRange(Range<u64>),
+    /// Insert a key.
+    Insert(u64),
+    /// Insert a key that is present. Its new value is dropped.
+    InsertPresent(u64),
+    /// Remove a pair: whether its key was present.
+    Remove(u64, bool),
+    /// Remove a pair by `remove_with`, and drop a clone of its value: whether its key was present.
+    RemoveWith(u64, bool),
+    /// Remove the pairs with odd keys.
+    RetainEven,
+    /// Remove the pair of a present key by `remove_if` if its function returns this.
+    RemoveIf(u64, bool),
+    /// Raise the minimum.
+    RaiseMinimum(usize),
+    /// Remove all pairs.
+    Clear,
+    /// Expect a clone to have so many pairs, and so many values to exist then.
+    ExpectClone(usize, usize),
+    /// Expect so many pairs and so many values.
+    ExpectCounts(usize, usize),
 }
 
 /// A name, the hasher, and what happens on a new index.
@@ -44,44 +46,50 @@ type Story = (&'static str, ScriptHash, &'static [Step]);
 const STORIES: &[Story] = steps! {
     // Both tombstones are dropped by one insertion.
     ("a removed value is dropped when an insertion needs room", ScriptHash::Zero, steps! {
-        Fills(0, 32), Sees(32, 32), Removes(0, true), Removes(0, false), Removes(5, true),
-        Sees(30, 32), Inserts(32), Sees(31, 31), Inserts(33), Sees(32, 32) }),
+        InsertRange(0..32), ExpectCounts(32, 32), Remove(0, true), Remove(0, false),
+        Remove(5, true), ExpectCounts(30, 32), Insert(32), ExpectCounts(31, 31), Insert(33),
+        ExpectCounts(32, 32) }),
     // Key 34 takes the slot of key 5.
     ("tombstones wait while an own slot is free", ScriptHash::Zero, steps! {
-        Fills(0, 32), Removes(0, true), Removes(5, true), Inserts(33), Sees(31, 31),
-        Removes(7, true), Sees(30, 31), Inserts(34), Sees(31, 32), Inserts(35), Sees(32, 32) }),
+        InsertRange(0..32), Remove(0, true), Remove(5, true), Insert(33), ExpectCounts(31, 31),
+        Remove(7, true), ExpectCounts(30, 31), Insert(34), ExpectCounts(31, 32), Insert(35),
+        ExpectCounts(32, 32) }),
     // Keys 32 and 33 are in a block of the chain, where there is room for key 34.
     ("tombstones of a chain wait while all own slots have pairs", ScriptHash::Zero, steps! {
-        Fills(0, 34), Removes(32, true), Removes(33, true), Inserts(34), Sees(33, 35),
-        Removes(0, true), Inserts(35), Sees(33, 33) }),
+        InsertRange(0..34), Remove(32, true), Remove(33, true), Insert(34), ExpectCounts(33, 35),
+        Remove(0, true), Insert(35), ExpectCounts(33, 33) }),
     ("a removed key is inserted while its tombstone waits", ScriptHash::Zero, steps! {
-        Fills(0, 31), Removes(3, true), Sees(30, 31), Inserts(3), Sees(31, 32), Removes(3, true),
-        Sees(30, 32), Inserts(3), Sees(31, 31), Returns(3), Sees(31, 31) }),
+        InsertRange(0..31), Remove(3, true), ExpectCounts(30, 31), Insert(3), ExpectCounts(31, 32),
+        Remove(3, true), ExpectCounts(30, 32), Insert(3), ExpectCounts(31, 31), InsertPresent(3),
+        ExpectCounts(31, 31) }),
     ("a value that is handed over waits as others do", ScriptHash::Zero, steps! {
-        Fills(0, 32), Reads(4, true), Reads(4, false), Sees(31, 32), Removes(4, false), Inserts(4),
-        Sees(32, 32) }),
+        InsertRange(0..32), RemoveWith(4, true), RemoveWith(4, false), ExpectCounts(31, 32),
+        Remove(4, false), Insert(4), ExpectCounts(32, 32) }),
     ("values of pairs that aren't kept wait as others do", ScriptHash::Zero, steps! {
-        Fills(0, 32), Retains, Sees(16, 32), Retains, Sees(16, 32), Removes(1, false), Inserts(32),
-        Sees(17, 17), Inserts(33), Sees(18, 18), Retains, Sees(17, 18) }),
+        InsertRange(0..32), RetainEven, ExpectCounts(16, 32), RetainEven, ExpectCounts(16, 32),
+        Remove(1, false), Insert(32), ExpectCounts(17, 17), Insert(33), ExpectCounts(18, 18),
+        RetainEven, ExpectCounts(17, 18) }),
     ("a pair that stays leaves no tombstone", ScriptHash::Zero, steps! {
-        Fills(0, 32), Asks(4, false), Sees(32, 32), Asks(4, true), Sees(31, 32), Inserts(32),
-        Sees(32, 32) }),
+        InsertRange(0..32), RemoveIf(4, false), ExpectCounts(32, 32), RemoveIf(4, true),
+        ExpectCounts(31, 32), Insert(32), ExpectCounts(32, 32) }),
     ("a copy has no removed value", ScriptHash::Zero, steps! {
-        Copies(0, 0), Fills(0, 40), Removes(0, true), Removes(39, true), Sees(38, 40),
-        Copies(38, 78), Sees(38, 40), Retains, Copies(19, 59), Removes(2, true), Sees(18, 40) }),
+        ExpectClone(0, 0), InsertRange(0..40), Remove(0, true), Remove(39, true),
+        ExpectCounts(38, 40), ExpectClone(38, 78), ExpectCounts(38, 40), RetainEven,
+        ExpectClone(19, 59), Remove(2, true), ExpectCounts(18, 40) }),
     ("a clearing drops removed values too", ScriptHash::Zero, steps! {
-        Fills(0, 40), Removes(1, true), Removes(39, true), Inserts(1), Sees(39, 39),
-        Removes(1, true), Removes(38, true), Sees(37, 39), Clears, Sees(0, 0), Inserts(1),
-        Sees(1, 1), Clears, Clears, Sees(0, 0) }),
+        InsertRange(0..40), Remove(1, true), Remove(39, true), Insert(1), ExpectCounts(39, 39),
+        Remove(1, true), Remove(38, true), ExpectCounts(37, 39), Clear, ExpectCounts(0, 0),
+        Insert(1), ExpectCounts(1, 1), Clear, Clear, ExpectCounts(0, 0) }),
     ("an index drops removed values as it goes", ScriptHash::Zero, steps! {
-        Fills(0, 40), Removes(1, true), Removes(39, true), Removes(0, true), Sees(37, 40) }),
+        InsertRange(0..40), Remove(1, true), Remove(39, true), Remove(0, true),
+        ExpectCounts(37, 40) }),
     // Keys 0 to 30 are in the first bucket of two.
     ("tombstones go with their array as the index has more slots", ScriptHash::Spread, steps! {
-        Fills(0, 31), Removes(2, true), Removes(3, true), Sees(29, 31), Reserves(128),
-        Inserts(255), Sees(30, 30) }),
+        InsertRange(0..31), Remove(2, true), Remove(3, true), ExpectCounts(29, 31),
+        RaiseMinimum(128), Insert(255), ExpectCounts(30, 30) }),
     ("tombstones go with the array of the last pair", ScriptHash::Zero, steps! {
-        Fills(0, 3), Removes(1, true), Removes(0, true), Sees(1, 3), Removes(2, true), Sees(0, 0),
-        Inserts(2), Sees(1, 1) })
+        InsertRange(0..3), Remove(1, true), Remove(0, true), ExpectCounts(1, 3), Remove(2, true),
+        ExpectCounts(0, 0), Insert(2), ExpectCounts(1, 1) })
 };
 
 #[test]
@@ -117,21 +125,35 @@ fn insert_clone<H: KeyHash<u64>>(
 
 // Takes a step, and compares its result.
 fn take(rt: &impl Abort, index: &mut Index, counted: &Rc<u64>, at: At, step: &Step) {
-    match *step {
-        Fills(from, to) => check_same(rt, fill(index, counted, from, to), true, at),
-        Inserts(key) => check_same(rt, insert_clone(index, counted, key), true, at),
-        Returns(key) => check_same(rt, insert_clone(index, counted, key), false, at),
-        Reads(key, there) => {
-            check_same(rt, index.remove_with(&key, is_cloned).is_some(), there, at);
+    match step {
+        InsertRange(keys) => check_same(rt, insert_range(index, counted, keys), true, at),
+        Insert(key) => check_same(rt, insert_clone(index, counted, *key), true, at),
+        InsertPresent(key) => check_same(rt, insert_clone(index, counted, *key), false, at),
+        Remove(key, there) => check_same(rt, index.remove(key), *there, at),
+        RemoveWith(key, there) => {
+            check_same(rt, index.remove_with(key, is_cloned).is_some(), *there, at);
         }
-        _ => change(rt, index, counted, at, step),
+        RemoveIf(key, gone) => {
+            let condition = |_own: &u64, _value: &Rc<u64>| *gone;
+            check_same(rt, index.remove_if(key, condition), *gone, at);
+        }
+        RaiseMinimum(additional) => {
+            let _ = index.raise_minimum(*additional);
+        }
+        RetainEven => index.retain(&mut is_even),
+        Clear => index.clear(),
+        ExpectClone(pairs, values) => copy(rt, index, counted, (*pairs, *values), at),
+        ExpectCounts(pairs, values) => {
+            let found = (index.len(), Rc::strong_count(counted).saturating_sub(1));
+            check_same(rt, found, (*pairs, *values), at);
+        }
     }
 }
 
 // Inserts keys with clones of a value. Whether all were inserted.
-fn fill(index: &mut Index, counted: &Rc<u64>, from: u64, to: u64) -> bool {
+fn insert_range(index: &mut Index, counted: &Rc<u64>, keys: &Range<u64>) -> bool {
     let mut are_in = true;
-    for key in from..to {
+    for key in keys.start..keys.end {
         are_in = insert_clone(index, counted, key) && are_in;
     }
     are_in
@@ -143,28 +165,6 @@ fn is_even(own: &u64, _value: &Rc<u64>) -> bool {
 
 fn is_cloned(_own: &u64, value: &Rc<u64>) -> bool {
     value.clone().is_ok()
-}
-
-// Takes a step that removes pairs, raises the minimum, or looks.
-fn change(rt: &impl Abort, index: &mut Index, counted: &Rc<u64>, at: At, step: &Step) {
-    match step {
-        Removes(key, there) => check_same(rt, index.remove(key), *there, at),
-        Asks(key, gone) => {
-            let condition = |_own: &u64, _value: &Rc<u64>| *gone;
-            check_same(rt, index.remove_if(key, condition), *gone, at);
-        }
-        Reserves(additional) => {
-            let _ = index.raise_minimum(*additional);
-        }
-        Retains => index.retain(&mut is_even),
-        Clears => index.clear(),
-        Copies(pairs, values) => copy(rt, index, counted, (*pairs, *values), at),
-        Sees(pairs, values) => {
-            let found = (index.len(), Rc::strong_count(counted).saturating_sub(1));
-            check_same(rt, found, (*pairs, *values), at);
-        }
-        _ => check_same(rt, true, false, (at, "no step")),
-    }
 }
 
 // Clones an index and drops the clone. Compares the clone's pairs, and how many values there are.

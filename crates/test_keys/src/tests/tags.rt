@@ -4,13 +4,16 @@ ghost use Rattle.std.specs.Prelude.{◌==◌, refl};
 ghost use Rattle.std.specs.Cmp.Rules.{comparing};
 ghost use Rattle.std.proofs.Common.{arith, rules};
 
-use super::{At, check_same, steps};
+use super::check_same;
+use OnMap::*;
+use OnSet::*;
 use Step::*;
 use bucket_table::key_hash::KeyHash;
 use collections::hash_map::{HashMap, NotInserted};
 use collections::hash_set::HashSet;
 use std::process::Abort;
 use std::test::Fail;
+use test_helpers::{At, steps};
 
 /// A number that is compared, and a tag that isn't.
 #[derive(Clone, Copy, Debug)]
@@ -59,26 +62,34 @@ type Set = HashSet<Tagged, OneHash>;
 
 /// A call on a map or a set, with the tag of the key that is returned, or that is present.
 enum Step {
-    /// A pair is inserted into the map.
-    Inserts(Tagged, u64, Option<u64>),
-    /// A value is put or written, and this was the earlier one.
-    Upserts(Tagged, u64, Option<u64>),
-    /// The pair is updated.
-    Updates(Tagged, Option<u64>),
-    /// The pair is removed, with this value.
-    Removes(Tagged, Option<(u64, u64)>),
-    /// A key is inserted into the set.
-    Comes(Tagged, Option<u64>),
-    /// A key is added to the set, or an equal one is present.
-    Adds(Tagged, bool),
-    /// A key takes the place of its equal.
-    Replaces(Tagged, Option<u64>),
-    /// The key that the set has.
-    Has(Tagged, Option<u64>),
-    /// A key of the set is removed.
-    Goes(Tagged, Option<u64>),
-    /// How many keys the set has.
-    Len(usize),
+    OnMap(OnMap),
+    OnSet(OnSet),
+}
+
+enum OnMap {
+    /// Insert a pair.
+    InsertPair(Tagged, u64, Option<u64>),
+    /// Insert a value or write it: this was the earlier one.
+    Upsert(Tagged, u64, Option<u64>),
+    /// Update the pair.
+    Update(Tagged, Option<u64>),
+    /// Remove the pair, which has this tag and this value.
+    RemovePair(Tagged, Option<(u64, u64)>),
+}
+
+enum OnSet {
+    /// Insert a key by `insert_new`.
+    InsertNew(Tagged, Option<u64>),
+    /// Insert a key by `insert`: whether no equal one was present.
+    Insert(Tagged, bool),
+    /// Put a key in the place of its equal.
+    Replace(Tagged, Option<u64>),
+    /// Look up the key that the set has.
+    Get(Tagged, Option<u64>),
+    /// Remove the key.
+    Take(Tagged, Option<u64>),
+    /// Expect so many keys.
+    ExpectLen(usize),
 }
 
 /// What happens on a new map and a new set.
@@ -86,14 +97,17 @@ type Story = (&'static str, &'static [Step]);
 
 const STORIES: &[Story] = steps! {
     ("the key that came first stays in a map", steps! {
-        Inserts(FIRST, 10, None), Inserts(SECOND, 11, Some(2)), Upserts(SECOND, 12, Some(10)),
-        Updates(SECOND, Some(1)), Removes(SECOND, Some((1, 12))) }),
+        OnMap(InsertPair(FIRST, 10, None)), OnMap(InsertPair(SECOND, 11, Some(2))),
+        OnMap(Upsert(SECOND, 12, Some(10))), OnMap(Update(SECOND, Some(1))),
+        OnMap(RemovePair(SECOND, Some((1, 12)))) }),
     ("the key that came first stays in a set", steps! {
-        Comes(FIRST, None), Comes(SECOND, Some(2)), Goes(SECOND, Some(1)) }),
+        OnSet(InsertNew(FIRST, None)), OnSet(InsertNew(SECOND, Some(2))),
+        OnSet(Take(SECOND, Some(1))) }),
     ("a key replaces its equal", steps! {
-        Has(FIRST, None), Adds(FIRST, true), Has(FIRST, Some(1)), Replaces(FIRST, Some(1)),
-        Has(FIRST, Some(1)), Has(SECOND, Some(1)), Adds(SECOND, false), Has(SECOND, Some(1)),
-        Replaces(SECOND, Some(1)), Has(SECOND, Some(2)), Len(1) })
+        OnSet(Get(FIRST, None)), OnSet(Insert(FIRST, true)), OnSet(Get(FIRST, Some(1))),
+        OnSet(Replace(FIRST, Some(1))), OnSet(Get(FIRST, Some(1))), OnSet(Get(SECOND, Some(1))),
+        OnSet(Insert(SECOND, false)), OnSet(Get(SECOND, Some(1))), OnSet(Replace(SECOND, Some(1))),
+        OnSet(Get(SECOND, Some(2))), OnSet(ExpectLen(1)) })
 };
 
 #[test]
@@ -102,43 +116,44 @@ fn of_equal_keys_the_first_stays(rt: HostRuntime) -> Result<(), Fail> {
         let mut map: Map = HashMap::with_hasher(rt.alloc(), OneHash);
         let mut set: Set = HashSet::with_hasher(rt.alloc(), OneHash);
         for (row, step) in steps.iter().enumerate() {
-            take(&rt, &mut map, &mut set, (*name, row), step);
+            match step {
+                OnMap(call) => call_map(&rt, &mut map, (*name, row), call),
+                OnSet(call) => call_set(&rt, &mut set, (*name, row), call),
+            }
         }
     }
     Ok(())
 }
 
-// Takes a step, and compares its result.
-fn take(rt: &impl Abort, map: &mut Map, set: &mut Set, at: At, step: &Step) {
-    match *step {
-        Inserts(key, value, back) => {
+// Makes a call on the map, and compares its result.
+fn call_map(rt: &impl Abort, map: &mut Map, at: At, call: &OnMap) {
+    match *call {
+        InsertPair(key, value, back) => {
             check_same(rt, returned(map.insert(key, value)), Some(back), at);
         }
-        Upserts(key, value, earlier) => {
+        Upsert(key, value, earlier) => {
             check_same(rt, map.upsert(key, value).ok(), Some(earlier), at);
         }
-        Updates(key, tag) => check_same(rt, map.update(&key, own_tag), tag, at),
-        Removes(key, pair) => {
+        Update(key, tag) => check_same(rt, map.update(&key, own_tag), tag, at),
+        RemovePair(key, pair) => {
             let found = match map.remove(&key) {
                 Some((own, value)) => Some((own.tag, value)),
                 None => None,
             };
             check_same(rt, found, pair, at);
         }
-        _ => take_on_set(rt, set, at, step),
     }
 }
 
-// Takes a step on the set, and compares its result.
-fn take_on_set(rt: &impl Abort, set: &mut Set, at: At, step: &Step) {
-    match *step {
-        Comes(key, back) => check_same(rt, returned(set.insert_new(key)), Some(back), at),
-        Adds(key, added) => check_same(rt, set.insert(key).ok(), Some(added), at),
-        Replaces(key, tag) => check_same(rt, tag_in(set.replace(key).ok().flatten()), tag, at),
-        Goes(key, tag) => check_same(rt, tag_in(set.take(&key)), tag, at),
-        Has(key, tag) => check_same(rt, tag_in(set.get(&key).copied()), tag, at),
-        Len(keys) => check_same(rt, set.len(), keys, at),
-        _ => check_same(rt, true, false, (at, "no step")),
+// Makes a call on the set, and compares its result.
+fn call_set(rt: &impl Abort, set: &mut Set, at: At, call: &OnSet) {
+    match *call {
+        InsertNew(key, back) => check_same(rt, returned(set.insert_new(key)), Some(back), at),
+        Insert(key, added) => check_same(rt, set.insert(key).ok(), Some(added), at),
+        Replace(key, tag) => check_same(rt, tag_in(set.replace(key).ok().flatten()), tag, at),
+        Get(key, tag) => check_same(rt, tag_in(set.get(&key).copied()), tag, at),
+        Take(key, tag) => check_same(rt, tag_in(set.take(&key)), tag, at),
+        ExpectLen(keys) => check_same(rt, set.len(), keys, at),
     }
 }
 

@@ -1,7 +1,7 @@
 //! Words that are looked up by texts, and lists by slices, in collections that name no hasher; and
 //! the errors that return a word.
+use super::check_same;
 use super::forms::{Words, no_words, owned, put};
-use super::{At, check_same, steps};
 use Step::*;
 use collections::hash_map::{HashMap, NotInserted};
 use collections::hash_set::HashSet;
@@ -10,19 +10,20 @@ use std::error::Error;
 use std::io::{self, ErrorKind};
 use std::process::Abort;
 use std::test::Fail;
+use test_helpers::{At, steps};
 
 /// A call on a collection of each kind, with the result of a look-up by a text.
 enum Step {
-    /// A word is inserted with a number.
-    Puts(&'static str, u64),
-    /// The number of a word.
-    Finds(&'static str, Option<u64>),
+    /// Insert a word with a number.
+    Insert(&'static str, u64),
+    /// Find the number of a word.
+    Find(&'static str, Option<u64>),
 }
 
 const STEPS: &[Step] = steps! {
-    Finds("Ann", None), Finds("", None), Puts("Ann", 1), Finds("Ann", Some(1)), Finds("An", None),
-    Finds("ann", None), Finds("Anna", None), Finds("", None), Puts("", 2), Finds("", Some(2)),
-    Puts("Bob", 3), Finds("Bob", Some(3)), Finds("Ann", Some(1)), Finds("bo", None)
+    Find("Ann", None), Find("", None), Insert("Ann", 1), Find("Ann", Some(1)), Find("An", None),
+    Find("ann", None), Find("Anna", None), Find("", None), Insert("", 2), Find("", Some(2)),
+    Insert("Bob", 3), Find("Bob", Some(3)), Find("Ann", Some(1)), Find("bo", None)
 };
 
 #[test]
@@ -52,8 +53,8 @@ fn check_keys(rt: &impl Abort, alloc: Global, words: &Words) -> Result<(), Alloc
 // Takes a step, and compares what is found.
 fn take(rt: &impl Abort, alloc: Global, words: &mut Words, at: At, step: &Step) {
     match *step {
-        Puts(word, number) => check_same(rt, put(alloc, words, word, number), true, at),
-        Finds(word, number) => {
+        Insert(word, number) => check_same(rt, put(alloc, words, word, number), true, at),
+        Find(word, number) => {
             let found = (number, number.is_some());
             check_same(rt, by_text(words, word), (found, found, found), at);
             check_same(rt, words.set.contains(word), number.is_some(), (at, "set"));

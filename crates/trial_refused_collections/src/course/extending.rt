@@ -1,6 +1,7 @@
 //! Pairs inserted into a map or a set in one call, some of them present already.
-use super::{Course, GATHERING, key_of};
+use super::Course;
 use crate::collection::Collection;
+use test_helpers::{gather, spread};
 
 // How many pairs are inserted: those of the first numbers.
 const MANY: u64 = 64;
@@ -10,7 +11,7 @@ impl Course {
     pub(super) fn extend(&mut self) -> bool {
         match &mut self.collection {
             Collection::Map(map) => {
-                let mut pairs = (0..MANY).map(|number: u64| (key_of(number), number));
+                let mut pairs = (0..MANY).map(|number: u64| (spread(number), number));
                 let refused = match map.try_extend(&mut pairs) {
                     Ok(()) => None,
                     Err(back) => Some(back.value.0),
@@ -19,7 +20,7 @@ impl Course {
                 self.extends(true, refused, left)
             }
             Collection::Set(set) => {
-                let mut keys = (0..MANY).map(key_of);
+                let mut keys = (0..MANY).map(spread);
                 let refused = match set.try_extend(&mut keys) {
                     Ok(()) => None,
                     Err(back) => Some(back.value),
@@ -35,7 +36,7 @@ impl Course {
     /// was absent, and whether the iterator continues with the next one.
     fn extends(&mut self, has_values: bool, refused: Option<u64>, left: Option<u64>) -> bool {
         let end = match refused {
-            Some(key) => key.wrapping_mul(GATHERING),
+            Some(key) => gather(key),
             None => MANY,
         };
         for number in 0..end.min(MANY) {
@@ -51,7 +52,7 @@ impl Course {
         }
         self.refused = self.refused.saturating_add(1);
         let next = end.saturating_add(1);
-        let wanted = (next < MANY).then_some(key_of(next));
+        let wanted = (next < MANY).then_some(spread(next));
         end < MANY && self.beside.value(end).is_none() && left == wanted
     }
 }

@@ -1,7 +1,7 @@
 //! Resizing a cache.
-use super::{Course, key_of};
+use super::Course;
 use crate::collection::Collection;
-use test_helpers::KEYS;
+use test_helpers::{KEYS, spread};
 
 impl Course {
     /// Resizes a cache of 64 slots to 128, and any other cache to 64, and returns whether the
@@ -21,7 +21,7 @@ impl Course {
     /// Records the pairs that were evicted, and returns whether the others have their values.
     fn lets_go(&mut self) -> bool {
         for number in 0..KEYS {
-            let found = self.collection.value(key_of(number));
+            let found = self.collection.value(spread(number));
             if found != self.beside.value(number) {
                 if found.is_some() {
                     return false;
