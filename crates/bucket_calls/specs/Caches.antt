@@ -10,8 +10,8 @@ use Rattle.collections.specs.Changes.{Puts, Removes}
 use Rattle.collections.specs.Crowding.{LacksBucket}
 use Rattle.collections.specs.Maps.{contains_by, get_by, map_of}
 use Rattle.collections.specs.Orders.{IsTouched, LeavesPlace, PutsOrKeeps}
-use Rattle.collections.specs.declared.hash_cache.putting.Upserted.{Upserted}
-use Rattle.collections.specs.declared.hash_cache.putting.Upserted.TheVariants.{Added, Evicted, Replaced}
+use Rattle.collections.specs.declared.hash_cache.put.Upserted.{Upserted}
+use Rattle.collections.specs.declared.hash_cache.put.Upserted.TheVariants.{Added, Evicted, Replaced}
 use Rattle.bucket_calls.specs.Codes.{cache_upsert_code, found_code, no_memory, put_code}
 use Rattle.bucket_calls.specs.Views.{Text}
 

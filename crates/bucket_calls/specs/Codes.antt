@@ -3,8 +3,8 @@ use Rattle.std.specs.Prelude.{ℕ, Option, Some, None, Result, Ok, Err}
 use Rattle.std.specs.declared.alloc.AllocFailed.{AllocFailed}
 use Rattle.bucket_table.specs.declared.hash_table.NotInserted.{NotInserted}
 use Rattle.bucket_table.specs.declared.hash_table.NotInserted.TheVariants.{Present, Memory}
-use Rattle.collections.specs.declared.hash_cache.putting.Upserted.{Upserted}
-use Rattle.collections.specs.declared.hash_cache.putting.Upserted.TheVariants.{Added, Evicted, Replaced}
+use Rattle.collections.specs.declared.hash_cache.put.Upserted.{Upserted}
+use Rattle.collections.specs.declared.hash_cache.put.Upserted.TheVariants.{Added, Evicted, Replaced}
 
 abbrev pub ok : ℕ
 ok = 0

@@ -10,8 +10,8 @@ use Rattle.collections.specs.Changes.{Adds, Displaces, Puts, Replaces, Stays}
 use Rattle.collections.specs.Crowding.{LacksBucket}
 use Rattle.collections.specs.Maps.{MapView, get, map_of}
 use Rattle.collections.specs.Orders.{IsTouched, LeavesArray, PutsInHome}
-use Rattle.collections.specs.declared.hash_cache.putting.Upserted.{Upserted}
-use Rattle.collections.specs.declared.hash_cache.putting.Upserted.TheVariants.{Added, Evicted, Replaced}
+use Rattle.collections.specs.declared.hash_cache.put.Upserted.{Upserted}
+use Rattle.collections.specs.declared.hash_cache.put.Upserted.TheVariants.{Added, Evicted, Replaced}
 
 module _ {K V H : Type 0} (eq : K → K → Bool) where
   -- a pair is inserted, and the result is the evicted pair, if any; or its value replaces that of the present key, and the result is the

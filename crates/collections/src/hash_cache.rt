@@ -20,15 +20,12 @@ ghost use Rattle.collections.specs.Maps.{contains_by, get_by, IsEmpty, map_len, 
 ghost use Rattle.collections.specs.Maps.{pairs_in_bucket};
 ghost use Rattle.collections.specs.StoredKeys.{key_by};
 
-mod changing;
-mod comparing;
-mod draining;
-mod emptied;
-mod iterating;
-mod printing;
-mod putting;
-mod removing;
-mod resizing;
+mod capacity;
+mod change;
+mod compare;
+mod iter;
+mod put;
+mod remove;
 
 use crate::default_hash::DefaultHash;
 use crate::key_form::{FormProbe, KeyForm, pair_by, value_by};
@@ -39,9 +36,8 @@ use bucket_slots::lru::DoublyLinkedList;
 pub use bucket_table::hash_table::NotInserted;
 use bucket_table::hash_table::{HashTable, MAXIMUM_CAPACITY_LIMIT, ResizeRule};
 use bucket_table::key_hash::{KeyHash, StdHash};
-pub use draining::Drain;
-pub use iterating::{Iter, IterByUse, Keys, Values};
-pub use putting::Upserted;
+pub use iter::{Drain, Iter, IterByUse, Keys, Values};
+pub use put::Upserted;
 use std::alloc::Global;
 use std::hash::{BuildHasherDefault, Hash, RandomState};
 use std::marker::Model;

@@ -28,14 +28,11 @@ ghost use Rattle.collections.specs.Marks.{KeepsMarks, MarksRemoved};
 ghost use Rattle.collections.specs.Slots.{GrowsSlots, LosesSlots};
 ghost use Rattle.collections.specs.StoredKeys.{key_by};
 
-mod cloning;
-mod comparing;
-mod emptied;
+mod compare;
+mod copy;
 mod generation;
-mod iterating;
-mod printing;
-mod removing;
-mod retaining;
+mod iter;
+mod remove;
 
 use crate::default_hash::DefaultHash;
 use crate::hash_index::generation::NoneKept;
@@ -47,7 +44,7 @@ use crate::sizing::widest;
 use bucket_slots::bucket::INDEX;
 use bucket_table::hash_table::{HashTable, MAXIMUM_CAPACITY_LIMIT, ResizeRule};
 use bucket_table::key_hash::{KeyHash, StdHash};
-pub use iterating::{Iter, Keys, Values};
+pub use iter::{Iter, Keys, Values};
 use std::alloc::Global;
 use std::hash::{BuildHasherDefault, Hash, RandomState};
 use std::marker::Model;

@@ -1,7 +1,11 @@
-//! Iterators over the keys in both of two sets, in either, in one only, or in exactly one.
-ghost use Rattle.std.specs.Prelude.{◌≡◌, ◌+◌, IfSome, IsSomeAnd};
+//! The keys in both of two sets, in either, in one only, or in exactly one, and whether one set is
+//! a subset of another.
+ghost use Rattle.std.specs.Prelude.{◌≡◌, ◌+◌, IfSome, IsSomeAnd, not};
 ghost use Rattle.std.specs.Iterator.{YieldsFirstRef, item_count};
 ghost use Rattle.collections.specs.Keys.{keys_of_either, keys_of_one, keys_outside, keys_within};
+ghost use Rattle.std.specs.List.{list_all};
+ghost use Rattle.std.specs.Map.{keys_of};
+ghost use Rattle.collections.specs.Maps.{contains};
 
 use crate::default_hash::DefaultHash;
 use crate::hash_set::{HashSet, Iter};
@@ -235,5 +239,35 @@ impl<K: Eq, H: KeyHash<K>> HashSet<K, H> {
             own: self.difference(other),
             others: other.difference(self),
         }
+    }
+
+    /// Returns `true` if another set contains each key of this one.
+    ///
+    /// Stops at the first missing key. O(slots) expected. std:
+    /// `HashSet::is_subset`.
+    pub fn is_subset(&self, other: &Self) -> bool
+        ensures { result ≡ list_all (contains K.eq other.now) (keys_of self.now.entries) }
+    {
+        self.iter().all(|key: &K| other.contains(key))
+    }
+
+    /// Returns `true` if this set contains each key of another.
+    ///
+    /// Stops at the first missing key. O(slots of the other) expected. std:
+    /// `HashSet::is_superset`.
+    pub fn is_superset(&self, other: &Self) -> bool
+        ensures { result ≡ list_all (contains K.eq self.now) (keys_of other.now.entries) }
+    {
+        other.is_subset(self)
+    }
+
+    /// Returns `true` if no key is in both sets.
+    ///
+    /// Stops at the first key in both. O(slots) expected. std: `HashSet::is_disjoint`.
+    pub fn is_disjoint(&self, other: &Self) -> bool
+        ensures { result
+            ≡ list_all (λ key. not (contains K.eq other.now key)) (keys_of self.now.entries) }
+    {
+        self.iter().all(|key: &K| !other.contains(key))
     }
 }

@@ -1,0 +1,172 @@
+//! Copies of a map, and empty maps for `mem::try_take` and for an entry's `or_default`. Allocation
+//! may fail.
+ghost use Rattle.std.specs.Prelude.{IfOk, IsOk, OnOk, ◌≡◌, None};
+ghost use Rattle.collections.specs.Clones.{IsClone, PutsClone};
+ghost use Rattle.collections.specs.Maps.{IsEmpty, get};
+ghost use Rattle.std.specs.List.{FoldsTo};
+ghost use Rattle.collections.specs.Changes.{Adds};
+ghost use Rattle.collections.specs.Copies.{BecomesOrGoes, IsCopy};
+ghost use Rattle.collections.specs.Collecting.{empty_map};
+
+use crate::default_hash::DefaultHash;
+use crate::hash_map::HashMap;
+use bucket_table::key_hash::KeyHash;
+use std::alloc::{AllocError, Global};
+use std::default::{Emptied, MadeWith};
+use std::hash::Hash;
+
+impl<K: Eq + Clone, V: Clone, H: KeyHash<K> + Clone> HashMap<K, V, H> {
+    /// Returns another map with clones of the pairs and of the hasher, and the same capacities,
+    /// whose slots are allocated from `alloc`.
+    ///
+    /// # Errors
+    ///
+    /// Allocation failure; or a key's clone isn't equal to the key, which no law of `Clone` rules
+    /// out. An empty map allocates nothing but its hasher's clone.
+    ///
+    /// O(slots) expected. scc: `HashMap::clone`.
+    pub fn try_clone(&self, alloc: Global) -> Result<Self, AllocError>
+        ensures copy { IfOk result (λ copy. IsClone K.eq K.is_clone V.is_clone H.is_clone self.now
+            copy) }
+        ensures succeeds { IsEmpty self.now → H.is_infallible self.now.hasher → IsOk result }
+    {
+        self.room.learn();
+        let minimum = self.table.minimum_capacity();
+        let hasher = self.table.hasher().clone()?;
+        let mut copy = HashMap::with_room(alloc, hasher, minimum, self.len());
+        let mut pairs = self.iter();
+        while let Some(pair) = pairs.next() {
+            let (key, value) = pair;
+            copy.put_clone(key, value)?;
+        }
+        Ok(copy)
+    }
+}
+
+impl<K: Eq + Clone, V: Clone, H: KeyHash<K>> HashMap<K, V, H> {
+    /// Inserts clones of a key and a value, if the key's clone is equal to it.
+    fn put_clone(&mut self, key: &K, value: &V) -> Result<(), AllocError>
+        ensures { OnOk result
+            (PutsClone K.eq K.is_clone V.is_clone self.old (key.now, value.now) self.new) }
+    {
+        let own = key.clone()?;
+        if !key.eq(&own) {
+            return Err(AllocError);
+        }
+        let held = value.clone()?;
+        match self.upsert(own, held) {
+            Ok(_earlier) => Ok(()),
+            Err(_) => Err(AllocError),
+        }
+    }
+}
+
+/// Like `try_clone`, with memory from the map's own allocator, so that a struct with a map can
+/// derive `Clone`.
+impl<K: Eq + Clone, V: Clone, H: KeyHash<K> + Clone> Clone for HashMap<K, V, H> {
+    ghost is_clone = { λ own copy. IsClone K.eq K.is_clone V.is_clone H.is_clone own copy };
+
+    ghost is_infallible = { λ own. IsEmpty own × H.is_infallible own.hasher };
+
+    fn clone(&self) -> Result<HashMap<K, V, H>, AllocError> {
+        self.try_clone(self.allocator())
+    }
+}
+
+/// A target that takes the pairs of a copy.
+trait TakesPairs<K, V> {
+    /// The target after it has taken a pair.
+    ghost Takes: { Self → K → V → Self → Type 0 };
+
+    /// Takes a pair.
+    fn take_pair(&mut self, key: K, value: V)
+        ensures { Self.Takes self.old key value self.new };
+}
+
+/// A copy that isn't complete yet; `None` once an insertion failed.
+impl<K: Eq + Copy, V: Copy, H: KeyHash<K> + Copy> TakesPairs<K, V> for Option<HashMap<K, V, H>> {
+    ghost Takes = { λ before key value after. BecomesOrGoes (λ old new. get K.eq old key ≡ None
+        → Adds K.eq old key value new) before after };
+
+    fn take_pair(&mut self, key: K, value: V) {
+        let refused = match self {
+            Some(own) => own.upsert(key, value).is_err(),
+            None => false,
+        };
+        if refused {
+            *self = None;
+        }
+    }
+}
+
+impl<K: Eq + Copy, V: Copy, H: KeyHash<K> + Copy> HashMap<K, V, H> {
+    /// Returns a copy with the same pairs, hasher and capacities, allocated from `alloc`.
+    ///
+    /// # Errors
+    ///
+    /// Allocation failure. An empty map allocates nothing.
+    ///
+    /// O(slots) expected. This is `try_clone` for `Copy` pairs, with a stronger contract.
+    pub fn try_copy(&self, alloc: Global) -> Result<Self, AllocError>
+        ensures copy { IfOk result (λ copy. IsCopy K.eq self.now copy) }
+        ensures succeeds { IsEmpty self.now → IsOk result }
+    {
+        self.room.learn();
+        self.table.sound();
+        let minimum = self.table.minimum_capacity();
+        let roomy = HashMap::with_room(alloc, *self.table.hasher(), minimum, self.len());
+        let mut copy = Some(roomy);
+        self.pour(&mut copy);
+        match copy {
+            Some(own) => Ok(own),
+            None => Err(AllocError),
+        }
+    }
+
+    /// Passes each pair to the target once, in the order of the view.
+    fn pour<M: TakesPairs<K, V>>(&self, into: &mut M)
+        ensures { FoldsTo (λ before pair after. M.Takes before pair.0 pair.1 after) into.old
+            self.now.entries into.new }
+    {
+        let mut put = |key: &K, value: &V|
+            ensures { M.Takes into.entry.now key.now value.now into.exit.now }
+        {
+            into.take_pair(*key, *value);
+        };
+        self.for_each_ref(&mut put);
+    }
+}
+
+/// `mem::try_take(&mut map)` takes a map, and leaves an empty one with a clone of its hasher. Its
+/// minimum is 0. It fails only if that clone does. O(1).
+impl<K: Eq, V, H: KeyHash<K> + Clone> Emptied for HashMap<K, V, H> {
+    ghost is_emptied = { λ map. map ≡ empty_map map.hasher };
+
+    fn emptied(like: &HashMap<K, V, H>) -> Result<HashMap<K, V, H>, AllocError> {
+        like.empty_like()
+    }
+}
+
+impl<K: Eq, V, H: KeyHash<K> + Clone> HashMap<K, V, H> {
+    /// Returns an empty map with a clone of the hasher, whose memory comes from the same allocator.
+    ///
+    /// # Errors
+    ///
+    /// The hasher's clone fails.
+    pub(crate) fn empty_like(&self) -> Result<Self, AllocError>
+        ensures empty { IfOk result (λ made. made ≡ empty_map made.hasher) }
+        ensures hasher { IfOk result (λ made. H.is_clone self.now.hasher made.hasher) }
+    {
+        self.room.learn();
+        Ok(HashMap::with_hasher(self.allocator(), self.hasher().clone()?))
+    }
+}
+
+/// A map can be the value that an entry's `or_default` makes.
+impl<K: Eq + Hash, V> MadeWith<Global> for HashMap<K, V, DefaultHash> {
+    ghost is_made_with = { λ map. map ≡ empty_map map.hasher };
+
+    fn made_with(alloc: Global) -> HashMap<K, V, DefaultHash> {
+        HashMap::new(alloc)
+    }
+}
