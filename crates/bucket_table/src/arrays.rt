@@ -222,15 +222,13 @@ impl<K, V, L: LruList, const TYPE: u8> Arrays<K, V, L, TYPE> {
         requires { 0 < length (buckets_on self.now side) }
         ensures { result.now ≡ buckets_on self.now side }
     {
-        match side {
-            Side::Current => match &self.current {
-                Some(array) => array,
-                None => unreachable!(),
-            },
-            Side::Old => match self.linked.array() {
-                Some(array) => array,
-                None => unreachable!(),
-            },
+        let array = match side {
+            Side::Current => self.array(),
+            Side::Old => self.linked_array(),
+        };
+        match array {
+            Some(array) => array,
+            None => unreachable!(),
         }
     }
 
@@ -240,10 +238,7 @@ impl<K, V, L: LruList, const TYPE: u8> Arrays<K, V, L, TYPE> {
         requires { 0 < length self.now.current }
         ensures { IsHome (length self.now.current) hash result }
     {
-        match &self.current {
-            None => unreachable!(),
-            Some(array) => array.bucket_index(hash),
-        }
+        self.array_of(Side::Current).bucket_index(hash)
     }
 }
 

@@ -13,6 +13,7 @@ ghost use Rattle.bucket_table.specs.Rehash.Units.{KillsOnly, SpendsSome, WantsMe
 ghost use Rattle.bucket_table.specs.Rehash.Units.{WorksUnits};
 
 use super::old_array::OldArray;
+use super::side::current_in;
 use super::{Arrays, Side};
 use crate::capacity::{from_index_to_range, len_for};
 use crate::key_hash::KeyHash;
@@ -54,10 +55,7 @@ impl<K, V, L: LruList, const TYPE: u8> Arrays<K, V, L, TYPE> {
         requires { index < length self.old.current }
         ensures { self.new ≡ self.old }
     {
-        let Some(array) = &mut self.current else {
-            unreachable!()
-        };
-        array.settle(index);
+        current_in(&mut self.current).settle(index);
     }
 }
 

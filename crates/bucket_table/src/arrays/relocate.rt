@@ -24,6 +24,7 @@ ghost use Rattle.bucket_table.specs.Rehash.Relocation.{IsRelocated, IsWay, Keeps
 ghost use Rattle.bucket_table.specs.Rehash.Relocation.{KeepsOthers, MovesInto, home_of, homed_len};
 
 use super::Arrays;
+use super::side::current_in;
 use crate::capacity::from_index_to_range;
 use crate::key_hash::KeyHash;
 use bucket_slots::bucket::{BUCKET_LEN, Bucket, CACHE, EntryPtr};
@@ -54,9 +55,7 @@ impl<K: Eq + Drop, V: Drop, L: LruList + Drop, const TYPE: u8> Arrays<K, V, L, T
         ensures alive { OnErr result
             ((bucket_at self.old.linked index).killed ≡ false) }
     {
-        let Some(current) = &mut self.current else {
-            unreachable!()
-        };
+        let current = current_in(&mut self.current);
         relocate(self.alloc, hasher, current, self.linked.array_mut(), index)
     }
 

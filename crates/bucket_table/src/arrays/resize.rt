@@ -19,6 +19,7 @@ ghost use Rattle.bucket_table.specs.Resize.Sparse.{IsSparse, ShrinksIf};
 
 use super::old_array::OldArray;
 use super::sampling::sample;
+use super::side::current_in;
 use super::{Arrays, Side};
 use crate::tickets::Tickets;
 use bucket_slots::bucket::BUCKET_LEN;
@@ -247,9 +248,8 @@ impl<K: Drop, V: Drop, L: LruList + Drop, const TYPE: u8> Arrays<K, V, L, TYPE> 
         ensures others { OnOk result (self.new ≡ record self.old { current = self.new.current }) }
         ensures unchanged { OnErr result (self.new ≡ self.old) }
     {
-        let mut fresh = BucketArray::alloc(self.alloc, capacity)?;
-        fresh.start_digests(self.alloc);
-        self.current = Some(fresh);
+        self.current = Some(BucketArray::alloc(self.alloc, capacity)?);
+        current_in(&mut self.current).start_digests(self.alloc);
         Ok(())
     }
 

@@ -238,10 +238,7 @@ impl<K, V, L: LruList, const TYPE: u8> Arrays<K, V, L, TYPE> {
         requires { 0 < length self.now.linked }
         ensures { IsHome (length self.now.linked) hash result }
     {
-        match self.linked.array() {
-            None => unreachable!(),
-            Some(array) => array.bucket_index(hash),
-        }
+        self.array_of(Side::Old).bucket_index(hash)
     }
 }
 
