@@ -135,15 +135,17 @@ size_t bucket_len(const bucket_handle *handle);
 /* Returns the number of slots of the current array; 0 if closed. O(1). */
 size_t bucket_capacity(const bucket_handle *handle);
 
-/* Drops all pairs and slots; the seed and the capacity stay. OK, CLOSED. O(n). */
+/* Drops all pairs; the seed and the limits on the number of slots stay. A map, a set or a store keeps its slots if they are no more than
+ * its minimum and no resize is under way; otherwise, and in a cache, all slots are freed. The minimum is 64, or as many slots as the
+ * `capacity` of a map or a store needs, if that is more; bucket_shrink sets it to 0. OK, CLOSED. O(n). */
 BUCKET_MUST_USE uint32_t bucket_clear(bucket_handle *handle);
 
 /* Makes room for `additional` more pairs. OK; NO_MEMORY, also if no array can have so many slots. CLOSED; OTHER_KIND: a cache, whose
  * capacity is fixed when it is made. O(n). */
 BUCKET_MUST_USE uint32_t bucket_reserve(bucket_handle *handle, size_t additional);
 
-/* Leaves as few slots as the pairs need. OK; NO_MEMORY, unless there is no pair or the slots are as few already. CLOSED, OTHER_KIND.
- * O(n). */
+/* Sets the minimum to 0, and leaves as few slots as the pairs need. OK; NO_MEMORY, unless there is no pair or the slots are as few
+ * already. CLOSED, OTHER_KIND. O(n). */
 BUCKET_MUST_USE uint32_t bucket_shrink(bucket_handle *handle);
 
 /* Copies pairs of one bucket to `out`, skipping the first `start`, as many as there is room for, and stores their number in `count`.

@@ -478,7 +478,8 @@ template <class Shape, class Calls> class nodes : public holder {
         return erase_listed(doomed);
     }
 
-    /// Erases everything, and frees the slots; the seed stays. Allocates nothing. O(n).
+    /// Erases everything; the seed stays. A map or a set keeps its slots if they are at most 64 and no resize is under way, unless
+    /// shrink_to_fit has set its minimum to 0; otherwise, and in a cache, the slots are freed. Allocates nothing. O(n).
     void clear() noexcept {
         node_type *all = list();
         size_ = 0;
@@ -758,7 +759,8 @@ template <class K> class words : public holder {
         return erase_listed(doomed);
     }
 
-    /// Erases everything, and frees the slots; the seed stays. Allocates nothing. O(n).
+    /// Erases everything; the seed stays. The slots stay if they are at most 64 and no resize is under way, unless shrink_to_fit has set
+    /// the minimum to 0; otherwise they are freed. Allocates nothing. O(n).
     void clear() noexcept {
         static_cast<void>(bucket_clear(&handle_));
         size_ = 0;
@@ -1300,7 +1302,7 @@ template <class K> set(std::initializer_list<K>, std::optional<seed> = std::null
 /// The outcome of a `put` that doesn't throw.
 template <class K, class V> struct [[nodiscard]] put_attempt {
     V *value = nullptr; ///< where the value is; null if allocation failed, and nothing has changed
-    taken<K, V> gone;   ///< the pair that went for it, if one did
+    taken<K, V> gone;   ///< the pair that was replaced or evicted for it, if any
 
     /// Whether the pair is in the cache; false if allocation failed.
     explicit operator bool() const noexcept { return value != nullptr; }

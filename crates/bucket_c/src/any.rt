@@ -76,7 +76,8 @@ pub extern "C" fn bucket_capacity(handle: &mut Handle) -> usize
     }
 }
 
-/// Drops all pairs and all slots.
+/// Drops all pairs. The slots of a map, a set or a store stay if they are no more than the minimum
+/// and there are no old ones; otherwise, and in a cache, no slots are left.
 ///
 /// Returns `OK`, `CLOSED`. O(slots). `HashMap::clear`.
 #[unsafe(no_mangle)]

@@ -1,4 +1,4 @@
-//! Tests of what no clause says: that calls succeed if allocation does, that collections grow and
+//! Tests of what no clause states: that calls succeed if allocation does, that collections grow and
 //! shrink, and what their iterators yield; and what the tests of the standard library's maps and
 //! sets and of the crate `lru` check. Tests of keys and values of other types are in `test_keys`.
 mod cache_changes;
@@ -27,7 +27,7 @@ mod two_sets;
 use std::fmt::Debug;
 use std::process::Abort;
 
-// Two values are equal. The row helps to find the place.
+// Checks that two values are equal. The row helps to find the failing step.
 fn check_same<T: PartialEq + Debug + Drop, R: Debug + Drop>(
     rt: &impl Abort,
     found: T,

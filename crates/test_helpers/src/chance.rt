@@ -1,4 +1,4 @@
-//! A sequence of random numbers, and what it chooses: keys and calls.
+//! A sequence of random numbers, and the keys and calls that it chooses.
 //!
 //! A course of random calls has phases. While a collection grows, few pairs are removed; while it
 //! shrinks, none is inserted. So it gets longer arrays, and shorter ones again.
@@ -30,7 +30,7 @@ impl Chance {
         Chance { state: 1 }
     }
 
-    /// The upper bits of the next number, which are the better ones.
+    /// The upper bits of the next number; the lower ones are less random.
     pub fn next(&mut self) -> u64 {
         self.state = self
             .state
@@ -51,8 +51,8 @@ impl Chance {
     }
 }
 
-/// Whether the call of this number is in a phase in which the collection grows. Each phase has so
-/// many calls.
+/// Whether the call of this number is in a phase in which the collection grows. Each phase has
+/// `phase` calls.
 pub fn is_growing(number: u64, phase: u64) -> bool {
     match number.checked_div(phase) {
         Some(phases) => phases % 2 == 0,
@@ -63,10 +63,10 @@ pub fn is_growing(number: u64, phase: u64) -> bool {
 // An odd number with its bits spread.
 const SPREADING: u64 = 11400714819323198485;
 
-// Times the other number this is 1, modulo 2^64.
+// The inverse of the other number, modulo 2^64.
 const GATHERING: u64 = 17428512612931826493;
 
-/// The key of a number. The keys of small numbers take homes all over an array.
+/// The key of a number. The keys of small numbers have homes all over an array.
 pub fn spread(number: u64) -> u64 {
     number.wrapping_mul(SPREADING)
 }

@@ -1,7 +1,7 @@
-//! What a map of few keys has, kept in an array, which takes no memory: for programs that run while
-//! requests for memory are refused.
+//! A reference model of a map with few keys. It is an array and allocates nothing, so programs can
+//! use it while allocations fail.
 
-/// How many keys there are: those below.
+/// The number of keys: they are the numbers below it.
 pub const KEYS: u64 = 512;
 
 /// The value under each key.
@@ -32,14 +32,14 @@ impl FewKeys {
         len
     }
 
-    /// Gives a key this value, or none.
+    /// Sets the value of a key, or removes it.
     pub fn set(&mut self, key: u64, value: Option<u64>) {
         if let Some(place) = self.values.get_mut(key as usize) {
             *place = value;
         }
     }
 
-    /// Takes the keys below a bound away, and returns how many there were.
+    /// Removes the values of the keys below a bound, and returns how many there were.
     pub fn drop_below(&mut self, bound: u64) -> usize {
         let len = self.len();
         for key in 0..bound.min(KEYS) {

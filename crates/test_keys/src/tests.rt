@@ -1,7 +1,7 @@
-//! Tests of what no clause says, of keys and values of many types: keys looked up in another form
-//! and made of it, hashers that differ, keys in the order of another collection's slots, values
-//! that are dropped once, random calls compared with a map of the standard library, and calls that
-//! other libraries have.
+//! Tests of what no clause states, with keys and values of many types: keys looked up in another
+//! form and made of it, hashers that differ, keys in the order of another collection's slots,
+//! values that are dropped once, random calls compared with a map of the standard library, and
+//! calls that other libraries have.
 mod borrowed_keys;
 mod by_chance;
 mod cache_drops;
@@ -21,7 +21,7 @@ mod words;
 use std::fmt::Debug;
 use std::process::Abort;
 
-// Two values are equal. The row helps to find the place.
+// Checks that two values are equal. The row helps to find the failing step.
 fn check_same<T: PartialEq + Debug + Drop, R: Debug + Drop>(
     rt: &impl Abort,
     found: T,

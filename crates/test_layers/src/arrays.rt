@@ -1,5 +1,5 @@
-//! Arrays of buckets: one bucket beside the others, and homes of hashes at both ends of each
-//! interval of each length.
+//! Arrays of buckets: a bucket that changes leaves the others unchanged, and hashes at both ends of
+//! each interval have their homes, for each length.
 use crate::by_key::kill_empty;
 use crate::checks::check_same;
 use crate::sizes::power_of_two;
@@ -15,11 +15,11 @@ type Array = BucketArray<u64, u64, (), MAP>;
 // Arrays of buckets without keys and values, which take little memory.
 type Homes = BucketArray<(), (), (), MAP>;
 
-// The logarithm of the greatest length that is looked at.
+// The binary logarithm of the greatest length that is tested.
 const MOST: u32 = 20;
 
-// An array of eight parts: a bucket in each part and at the ends of some, from the last to the
-// first.
+// Buckets of an array of eight parts, from the last to the first: at least one in each part, and
+// those at the ends of some parts.
 const IN_PARTS: [usize; 11] = [511, 510, 449, 448, 447, 320, 300, 255, 130, 64, 3];
 
 #[test]
@@ -49,7 +49,8 @@ fn a_bucket_that_is_lent_leaves_the_others(rt: HostRuntime) -> Result<(), Fail> 
     Ok(())
 }
 
-// These buckets have their index and 1000 as keys, in this order; the others are empty.
+// Checks that these buckets have their index and 1000 as keys, in this order, and that the others
+// are empty.
 fn check_filled(rt: &impl Abort, array: &Array, filled: &[usize]) {
     for index in 0..array.len() {
         let there = filled.contains(&index);
@@ -88,8 +89,9 @@ fn ranges_go_from_the_home_of_the_first_hash_to_that_of_the_last(
     Ok(())
 }
 
-// The ranges of each bucket of an array in another, whose lengths are given in that order. The
-// intervals of the first have this width, and the last ends where the first begins.
+// Checks the range of each bucket of an array in another one, whose lengths are given in that
+// order. Each bucket of the first array has an interval of this width, and the last interval ends
+// at the greatest hash.
 fn check_ranges(rt: &impl Abort, array: &Homes, (from, to): (usize, usize), width: u64) {
     let len = power_of_two(rt, from);
     let other_len = power_of_two(rt, to);

@@ -1,4 +1,4 @@
-//! One bucket of each kind, or two, go through their stories.
+//! Plays the stories of one or two buckets of each kind.
 use crate::stage::Stage;
 use crate::{caches, indexes, maps};
 use bucket_slots::bucket::{CACHE, INDEX, MAP};
@@ -31,7 +31,7 @@ fn buckets_of_each_kind_go_through_their_stories(rt: HostRuntime) -> Result<(), 
             Stage::<DoublyLinkedList, CACHE>::new(rt.alloc()).tell(&rt, story)?;
         }
     }
-    // A cache that keeps no order.
+    // A cache that keeps no LRU order.
     for story in caches::NO_ORDER {
         Stage::<(), CACHE>::new(rt.alloc()).tell(&rt, story)?;
     }

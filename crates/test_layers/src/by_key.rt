@@ -21,8 +21,8 @@ pub(crate) fn find<V, L: LruList, const TYPE: u8>(
     if at.is_valid() { Some(at) } else { None }
 }
 
-/// Removes the pair of a key, of another kind than an index, and returns it with the pointer as the
-/// removal leaves it.
+/// Removes the pair of a key, unless the bucket is an index's, and returns it with the pointer as
+/// the removal leaves it.
 pub(crate) fn remove_at<V: Drop, L: LruList, const TYPE: u8>(
     bucket: &mut Bucket<u64, V, L, TYPE>,
     key: u64,
@@ -63,7 +63,7 @@ pub(crate) fn touch_key<V, L: LruList, const TYPE: u8>(
     true
 }
 
-/// Inserts a pair, and puts it at the oldest end of the LRU list, where it has an own slot.
+/// Inserts a pair, and puts it at the oldest end of the LRU list if it is in an own slot.
 pub(crate) fn insert_oldest<V: Drop, L: LruList, G: Generation, const TYPE: u8>(
     bucket: &mut Bucket<u64, V, L, TYPE>,
     hash: u64,
@@ -78,8 +78,8 @@ pub(crate) fn insert_oldest<V: Drop, L: LruList, G: Generation, const TYPE: u8>(
     Ok(at)
 }
 
-/// Moves the pair of a key to a bucket that isn't killed. Returns where it stands there, and where
-/// the pointer to its earlier place is then.
+/// Moves the pair of a key to a bucket that isn't killed. Returns its place there, and where the
+/// pointer to its earlier place is then.
 pub(crate) fn move_key<V: Drop, L: LruList, const TYPE: u8>(
     target: &mut Bucket<u64, V, L, TYPE>,
     source: &mut Bucket<u64, V, L, TYPE>,
@@ -98,7 +98,7 @@ pub(crate) fn move_key<V: Drop, L: LruList, const TYPE: u8>(
     }
 }
 
-/// Kills a bucket that has no pair and isn't killed, and returns whether it was one.
+/// Kills a bucket if it has no pair and isn't killed yet, and returns whether it did.
 pub(crate) fn kill_empty<V: Drop, L: LruList, const TYPE: u8>(
     bucket: &mut Bucket<u64, V, L, TYPE>,
 ) -> bool {

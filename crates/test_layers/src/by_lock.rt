@@ -11,8 +11,8 @@ pub(crate) type Table<L, const TYPE: u8> = HashTable<u64, u64, ScriptHash, L, TY
 /// A map of numbers.
 pub(crate) type Map = Table<(), MAP>;
 
-/// Puts a new key as its own value in the bucket that a writer is given. Returns that bucket's
-/// index, and where the pair stands in it.
+/// Inserts a new key, as its own value, into the bucket that a writer is given. Returns that
+/// bucket's index, and the pair's place in it.
 pub(crate) fn put_at<L: LruList + Drop, G: Generation, const TYPE: u8>(
     table: &mut Table<L, TYPE>,
     key: u64,
@@ -34,7 +34,7 @@ pub(crate) fn put_at<L: LruList + Drop, G: Generation, const TYPE: u8>(
     }
 }
 
-/// Removes a key from its bucket alone, and returns where the pointer is then.
+/// Removes a key by a call on its locked bucket, and returns where the pointer is then.
 pub(crate) fn take_at(table: &mut Map, key: u64) -> Option<Spot> {
     let hash = table.hash(&key);
     let mut locked = match table.writer_sync(hash) {
@@ -49,7 +49,7 @@ pub(crate) fn take_at(table: &mut Map, key: u64) -> Option<Spot> {
     Some((at.block(), at.pos()))
 }
 
-/// Returns where the pair of a key stands.
+/// Returns the place of a key's pair.
 pub(crate) fn place_of(table: &mut Map, key: u64) -> Option<Spot> {
     let hash = table.hash(&key);
     let locked = match table.writer_sync(hash) {
@@ -68,7 +68,7 @@ pub(crate) fn index_of(table: &mut Map, hash: u64) -> Option<usize> {
     }
 }
 
-/// The same by the other name of that call.
+/// The same by the call's other name.
 pub(crate) fn reserved_index_of(table: &mut Map, hash: u64) -> Option<usize> {
     match table.try_reserve_bucket(hash) {
         Ok(locked) => Some(locked.bucket_index()),

@@ -1,5 +1,5 @@
-//! Evictions from one bucket of a cache: from own slots alone, in the order of the touches. The
-//! order can be taken out of a bucket, and pairs put behind it.
+//! Evictions from one bucket of a cache: only from own slots, in LRU order. One call takes the
+//! order out of a bucket, and another one appends a pair as the oldest.
 use crate::checks::check_same;
 use crate::steps::Expect::*;
 use crate::steps::Set::*;
@@ -14,7 +14,7 @@ type Stage = crate::stage::Stage<DoublyLinkedList, CACHE>;
 
 // Each key is its own value.
 pub(crate) const EVICTIONS: &[Story] = stories! {
-    // An own slot is free after the first, though the chain is not empty.
+    // An own slot is free after the first eviction, though the chain is not empty.
     "an eviction looks at own slots alone", 0:
         Set(Values(1, 0)), InsertAndTouch(0..40), Evict(Some(0)), Expect(Len(39)), Evict(None),
         Expect(Len(39));
@@ -51,7 +51,7 @@ pub(crate) const NO_ORDER: &[Story] = stories! {
         TakeOrder(&[]), Touch(1, true), TakeOrder(&[]), Evict(Some(0)), Expect(Len(31));
 };
 
-// One pair after another is inserted, up to twice the own slots; none is touched.
+// Twice as many pairs as own slots are inserted, one after another, and none is touched.
 #[test]
 fn untouched_pairs_are_evicted_at_slot_zero(rt: HostRuntime) -> Result<(), Fail> {
     let mut stage = Stage::new(rt.alloc());
@@ -74,8 +74,8 @@ fn untouched_pairs_are_evicted_at_slot_zero(rt: HostRuntime) -> Result<(), Fail>
     Ok(())
 }
 
-// Every number of pairs up to twice the own slots, all touched, three times in one bucket: one is
-// evicted where the bucket is full, and the others are removed.
+// For each number of pairs below twice the own slots, three times in one bucket: all pairs are
+// inserted and touched, one is evicted if the own slots are full, and the others are removed.
 #[test]
 fn a_bucket_that_is_empty_again_evicts_as_a_new_one(rt: HostRuntime) -> Result<(), Fail> {
     for pairs in 1..64u64 {
@@ -98,9 +98,9 @@ fn a_bucket_that_is_empty_again_evicts_as_a_new_one(rt: HostRuntime) -> Result<(
     Ok(())
 }
 
-// Every number of pairs up to twice the own slots: each is touched when it is inserted, and once
-// the own slots are full, so is the pair of one slot again. Beside a plain list of the keys, the
-// newest first.
+// For each number of pairs below twice the own slots: each pair is touched when it is inserted.
+// Once the own slots are full, each insertion is followed by another touch of the pair in one slot.
+// The reference model is a list of the keys, newest first.
 #[test]
 fn touched_pairs_are_evicted_in_the_order_of_their_touches(rt: HostRuntime) -> Result<(), Fail> {
     for pairs in 0..64u64 {
@@ -132,8 +132,8 @@ fn touched_pairs_are_evicted_in_the_order_of_their_touches(rt: HostRuntime) -> R
     Ok(())
 }
 
-// Every number of touched pairs, from which the first ones are removed in turn: the bucket is
-// filled with untouched pairs, and evicts what was touched and is still there, in turn.
+// For each number of touched pairs, and each number of them that is removed, oldest first: the
+// bucket is filled with untouched pairs, and evicts the touched pairs that are left, oldest first.
 #[test]
 fn a_removed_pair_leaves_the_others_in_their_order(rt: HostRuntime) -> Result<(), Fail> {
     for touched in 0..33u64 {
@@ -158,8 +158,9 @@ fn a_removed_pair_leaves_the_others_in_their_order(rt: HostRuntime) -> Result<()
     Ok(())
 }
 
-// Evicts the listed keys, of which the newest comes first, from a bucket whose own slots are full:
-// an untouched pair takes the place of each. Then nothing is listed, and that of slot 0 is evicted.
+// Evicts the listed keys, which are given newest first, from a bucket whose own slots are full. An
+// untouched pair takes the place of each. Then nothing is listed, and the pair in slot 0 is
+// evicted.
 fn evict_all(rt: &impl Abort, stage: &mut Stage, listed: &[u64]) -> Result<(), Fail> {
     for oldest in listed.iter().rev() {
         let row = ("the oldest goes", *oldest as usize);

@@ -2,7 +2,7 @@
 use std::fmt::Debug;
 use std::process::Abort;
 
-/// Two values are equal. The row helps to find the place.
+/// Checks that two values are equal. The row helps to find the failing step.
 pub(crate) fn check_same<T: PartialEq + Debug + Drop, R: Debug + Drop>(
     rt: &impl Abort,
     found: T,

@@ -63,16 +63,16 @@ struct Both<'c> {
     compared: &'c Cell<u64>,
 }
 
-/// A call with its result, or what is seen.
+/// A call with its expected result, or an expectation.
 enum Step {
     /// Insert keys, each as its own value.
     InsertRange(Range<u64>),
-    /// Insert a new key. In a table alone it is in the writer's bucket of this index, in this
-    /// place.
+    /// Insert a new key. In the test of a table alone, it goes to this place in the writer's
+    /// bucket, which has this index.
     Insert(u64, usize, Spot),
     /// Look a key up: whether it is found, and with how many keys it is compared.
     LookUp(u64, bool, u64),
-    /// Expect so many slots of the current array, and this rehash word.
+    /// Expect this many slots in the current array, and this rehash word.
     ExpectSlots(usize, Option<usize>),
 }
 
@@ -114,7 +114,7 @@ fn a_probe_compares_up_to_the_first_equal_key(rt: HostRuntime) {
     }
 }
 
-// Takes a step on a table, and compares its result.
+// Takes a step on a table, and checks its result.
 fn take(rt: &impl Abort, table: &mut Map, at: At, step: &Step) {
     match step {
         InsertRange(keys) => insert_range(rt, table, at, keys),
@@ -146,7 +146,7 @@ fn a_key_is_compared_as_often_as_a_probe(rt: HostRuntime) {
 }
 
 impl<'c> Both<'c> {
-    // Takes a step, and compares its result.
+    // Takes a step, and checks its result.
     fn take(&mut self, rt: &impl Abort, at: At, step: &Step) {
         match step {
             InsertRange(numbers) => {
@@ -199,7 +199,7 @@ impl<'c> Both<'c> {
         ]
     }
 
-    // The answer of a look-up, and how many keys it compared. The next one is counted anew.
+    // The answer of a look-up, and how many keys it compared. Resets the count for the next one.
     fn counted(&self, found: bool) -> (bool, u64) {
         (found, self.compared.replace(0))
     }

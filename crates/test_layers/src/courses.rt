@@ -1,7 +1,7 @@
 //! Courses of random calls on tables of each kind, compared with a map of the standard library.
 //! Phases in which a table grows and phases in which it shrinks alternate, so that it gets longer
-//! arrays and shorter ones again. Which tombstones are kept is random, and between the calls are
-//! some that no script makes.
+//! arrays and shorter ones again. Which tombstones are kept is random. Some of the calls are ones
+//! that no script makes.
 use crate::by_lock::{Table, put_at};
 use crate::checks::check_same;
 use crate::steps::Answers;
@@ -23,18 +23,18 @@ const KEYS: u64 = 300;
 // How many calls a phase has.
 const PHASE: u64 = 2500;
 
-// After how many calls an epoch and the tombstones that are kept are chosen anew, and after how
-// many some call is made that no script makes.
+// The number of calls after which an epoch and the kept tombstones are chosen anew, and the number
+// after which a call is made that no script makes.
 const CHOICE: u64 = 10;
 
 const DIRECT: u64 = 50;
 
-/// The map that a table is, and a sequence of numbers that chooses the calls.
+/// The reference model of a table, and the random numbers that choose the calls.
 #[derive(Drop)]
 struct Course {
     map: BTreeMap<u64, u64>,
     chance: Chance,
-    /// Whether a ticket is open, and how often one was left so.
+    /// Whether a ticket is open, and how often one was left open.
     is_open: bool,
     opened: u64,
     /// How many slots the table has, and how many it had at most.
@@ -86,7 +86,7 @@ impl Course {
         }
     }
 
-    // How many slots the current array has now.
+    // Records how many slots the current array has now.
     fn sees(&mut self, slots: usize) {
         if slots < self.slots && !self.map.is_empty() {
             self.shrinks = self.shrinks.wrapping_add(1);
@@ -114,7 +114,8 @@ fn remove<L: LruList + Drop, const TYPE: u8>(
     }
 }
 
-// Puts, removes or peeks a key. While the table grows few are removed, while it shrinks none is put.
+// Puts, removes or peeks a key. While the table grows, few keys are removed; while it shrinks, none
+// is put.
 fn call<L: LruList + Drop, const TYPE: u8>(
     rt: &impl Abort,
     table: &mut Table<L, TYPE>,
@@ -143,7 +144,8 @@ fn call<L: LruList + Drop, const TYPE: u8>(
     Ok(())
 }
 
-// A sweep, a resize, an array, a bucket by two names, or a question whether a probe finds a key.
+// Sweeps, resizes, ends the open ticket, gets the array, locks a bucket by two calls, or looks a
+// key up by a probe.
 fn call_directly<L: LruList + Drop, const TYPE: u8>(
     rt: &impl Abort,
     table: &mut Table<L, TYPE>,
@@ -173,7 +175,7 @@ fn call_directly<L: LruList + Drop, const TYPE: u8>(
     }
 }
 
-// Removes the pairs whose keys leave a rest.
+// Removes the pairs whose keys leave this remainder when divided by 8.
 fn sweep<L: LruList + Drop, const TYPE: u8>(
     rt: &impl Abort,
     table: &mut Table<L, TYPE>,
@@ -189,7 +191,8 @@ fn sweep<L: LruList + Drop, const TYPE: u8>(
     Ok(())
 }
 
-// Asks for a resize. Beside some old arrays a ticket is left open for a while, so that they stay.
+// Tries to resize. After some resizes a ticket is left open for a while, so that the old array
+// stays.
 fn resize<L: LruList + Drop, const TYPE: u8>(
     rt: &impl Abort,
     table: &mut Table<L, TYPE>,
@@ -207,7 +210,7 @@ fn resize<L: LruList + Drop, const TYPE: u8>(
     Ok(())
 }
 
-// Searches the bucket of a key, which two calls lend.
+// Searches the bucket of a key, which each of two calls lends.
 fn lock<L: LruList + Drop, const TYPE: u8>(
     rt: &impl Abort,
     table: &mut Table<L, TYPE>,
@@ -225,7 +228,7 @@ fn lock<L: LruList + Drop, const TYPE: u8>(
     Ok(())
 }
 
-// Asks a probe, of at most each key once.
+// Looks a key up by a probe, which is asked about no more keys than there are.
 fn ask<L: LruList + Drop, const TYPE: u8>(
     rt: &impl Abort,
     table: &Table<L, TYPE>,
@@ -238,7 +241,7 @@ fn ask<L: LruList + Drop, const TYPE: u8>(
     check_same(rt, probe.asked() <= KEYS, true, ("how often", key));
 }
 
-// Plays a course from a new table to one whose pairs are gone.
+// Plays a course from a new table until all its pairs are removed.
 fn play<L: LruList + Drop, const TYPE: u8>(
     rt: &impl Abort,
     alloc: Global,
@@ -247,7 +250,7 @@ fn play<L: LruList + Drop, const TYPE: u8>(
     let mut table: Table<L, TYPE> = HashTable::new(alloc, hasher, 0, MAXIMUM_CAPACITY_LIMIT);
     let mut course = Course::new(alloc);
     let mut now = course.answers();
-    // Under one hash for all the last buckets are always empty, and a minimum lets such a table
+    // If all keys have one hash, the last buckets are always empty, and a minimum lets such a table
     // grow.
     let least = if hasher == ScriptHash::Zero { 64 } else { 0 };
     check_same(rt, table.reserve_capacity(least), least, "the minimum");

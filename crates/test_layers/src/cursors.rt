@@ -1,4 +1,4 @@
-//! A cursor over a map, which may take out what it meets.
+//! A cursor over a map, which may remove the pairs that it visits.
 use crate::by_key::find;
 use crate::by_lock::Map;
 use crate::checks::check_same;
@@ -12,17 +12,17 @@ use test_helpers::At;
 
 type Locked<'a> = LockedBucket<'a, u64, u64, ScriptHash, (), MAP>;
 
-/// Keys that a cursor meets one after another in one bucket.
+/// Keys that a cursor visits one after another in one bucket.
 pub(crate) struct Stop {
     /// The keys.
     pub(crate) keys: Range<u64>,
     /// The bucket's index, and how many slots its array has.
     pub(crate) bucket: (usize, usize),
-    /// Whether each pair is taken out of the bucket.
+    /// Whether each pair is removed from the bucket.
     pub(crate) takes: bool,
 }
 
-/// A cursor meets the keys of these stops, and then no more.
+/// Checks that a cursor visits the keys of these stops, and then ends.
 pub(crate) fn follow(
     rt: &impl Abort,
     table: &mut Map,
@@ -38,7 +38,8 @@ pub(crate) fn follow(
     Ok(())
 }
 
-// The cursor meets the keys of a stop. Returns the bucket behind them.
+// Checks that the cursor visits the keys of a stop. Returns the bucket that it reaches then, if
+// any.
 fn go_over<'a>(
     rt: &impl Abort,
     first: Option<Locked<'a>>,
@@ -73,10 +74,11 @@ fn found(bucket: Result<Locked<'_>, Missing>) -> Result<Option<Locked<'_>>, Fail
     }
 }
 
-// Whether the cursor stands at the pair of a key, which it takes out where that is asked.
+// Returns whether the cursor is at the pair of a key. If so, and if `takes` is true, removes that
+// pair.
 fn meets(locked: &mut Locked<'_>, at: &mut EntryPtr<u64, u64, MAP>, key: u64, takes: bool) -> bool {
-    // The low byte of a hash is that of its key, unless all hashes are 0, and a bucket looks at no
-    // more.
+    // The low byte of a hash is that of its key, unless all hashes are 0, and a bucket reads only
+    // that byte.
     let Some(mut there) = find(locked.bucket(), key, key) else {
         return false;
     };

@@ -9,7 +9,7 @@ use std::test::Fail;
 
 /// A call on a row, with its answer.
 enum Act {
-    /// What stands at a place, in the row or past its end.
+    /// The pair at a place, in the row or past its end.
     See(usize, Option<(u64, u64)>),
     /// A pair is put if the place is empty.
     Fill(usize, (u64, u64), bool),
@@ -17,7 +17,7 @@ enum Act {
     SetValue(usize, u64, Option<u64>),
     /// A value is written through a mutable reference to the pair, and the pair was this one.
     SetPair(usize, u64, Option<(u64, u64)>),
-    /// The pair is taken out.
+    /// The pair is removed.
     Take(usize, Option<(u64, u64)>),
     /// The pair is dropped, if there is one.
     LetGo(usize, bool),
@@ -54,14 +54,14 @@ fn a_row_keeps_lends_and_gives_back(rt: HostRuntime) {
     play(&rt, &mut DataBlock::<u64, u64, 32>::new(), OF_32);
 }
 
-// Makes the calls one after another, and compares each answer.
+// Makes the calls one after another, and checks each answer.
 fn play<const LEN: usize>(rt: &impl Abort, block: &mut DataBlock<u64, u64, LEN>, acts: &[Act]) {
     for (row, act) in acts.iter().enumerate() {
         check_act(rt, block, row, act);
     }
 }
 
-// Makes a call, and compares its answer.
+// Makes a call, and checks its answer.
 fn check_act<const LEN: usize>(
     rt: &impl Abort,
     block: &mut DataBlock<u64, u64, LEN>,

@@ -30,7 +30,7 @@ fn insert_clone<const TYPE: u8>(
     Ok(())
 }
 
-// A bucket of the keys from 0 on.
+// A bucket with the keys from 0 on.
 fn filled<const TYPE: u8>(
     alloc: Global,
     keys: u64,
@@ -43,13 +43,13 @@ fn filled<const TYPE: u8>(
     Ok(bucket)
 }
 
-/// A call on a bucket, or what is seen of it then.
+/// A call on a bucket, or an expectation.
 enum Act {
     /// Insert a key, with a clone and a test of which tombstones are kept.
     Insert(u64, Kept),
     /// Write a clone over the value of each of these keys.
     Write(&'static [u64]),
-    /// Reserve so many free slots.
+    /// Reserve this many free slots.
     Reserve(usize),
     /// Remove the pairs of these keys.
     Remove(&'static [u64]),
@@ -62,17 +62,16 @@ enum Act {
     MarkRange(Range<u64>),
     /// Drop tombstones, with a test of which are kept.
     ClearTombstones(Kept),
-    /// Kill the bucket, which has no live pair. It finds nothing then, and is killed no second
-    /// time.
+    /// Kill the bucket, which has no live pair. Then it finds nothing, and can't be killed again.
     Kill,
     Expect(Expect),
 }
 
 /// What is expected of a bucket.
 enum Expect {
-    /// The value and its clones are this many.
+    /// How many there are of the value and its clones.
     Values(usize),
-    /// So many pairs are live.
+    /// How many pairs are live.
     Len(usize),
     /// An own slot has a value, live or a tombstone.
     OwnSlot(usize),
@@ -84,16 +83,16 @@ type Story = (&'static str, u64, &'static [Act]);
 const OF_MAPS: &[Story] = stories! {
     "each value is dropped once with its bucket", 41:
         Expect(Values(42)), Remove(&[4, 39, 40]), Expect(Values(39));
-    // In own slots, in the chain's head and in its last block.
+    // The keys are in own slots, in the chain's head and in its last block.
     "a value goes as another is written over it", 41:
         Write(&[0, 31, 32, 35, 40]), Expect(Values(42)), Expect(Len(41)), Remove(&[32, 40]),
         Expect(Values(40));
-    // Two free blocks stand behind the one of live pairs. That one is removed, and a pair is
+    // Two free blocks are behind the one of live pairs. That one is removed, and a pair is
     // inserted into one of them.
     "free blocks hold no value", 33:
         Reserve(11), Expect(Values(34)), Remove(&[32]), Expect(Values(33)), Insert(50, Kept::All),
         Expect(Values(34));
-    // Of 50 blocks the last is removed first, or the head each time.
+    // In order, the last of 50 blocks is removed first; backwards, the head is removed each time.
     "each removed value is dropped at once, in order", 232:
         RemoveAll(232, false), Expect(Len(0));
     "each removed value is dropped at once, backwards", 232:
@@ -157,7 +156,7 @@ fn play<const TYPE: u8>(
     Ok(())
 }
 
-// Makes a call, or compares what is seen.
+// Makes a call, or checks an expectation.
 fn take<const TYPE: u8>(
     rt: &impl Abort,
     bucket: &mut Counted<TYPE>,
@@ -232,7 +231,7 @@ fn remove_all<const TYPE: u8>(
     }
 }
 
-// Compares what is seen of a bucket.
+// Checks an expectation about a bucket.
 fn check_expected<const TYPE: u8>(
     rt: &impl Abort,
     bucket: &Counted<TYPE>,
@@ -259,7 +258,7 @@ fn clear<const TYPE: u8>(bucket: &mut Counted<TYPE>, kept: &Kept) -> bool {
     true
 }
 
-// Kills a bucket without live pairs, which then finds nothing, and no second time.
+// Kills a bucket without live pairs. Then it finds nothing, and can't be killed again.
 fn check_kill<const TYPE: u8>(rt: &impl Abort, bucket: &mut Counted<TYPE>) {
     check_same(rt, (bucket.len(), kill_empty(bucket)), (0, true), "kills");
     check_same(rt, (bucket.len(), bucket.is_killed()), (0, true), "killed");
@@ -272,7 +271,7 @@ fn check_kill<const TYPE: u8>(rt: &impl Abort, bucket: &mut Counted<TYPE>) {
     check_same(rt, kill_empty(bucket), false, "kills again");
 }
 
-// The blocks of the source stay, free, until it is killed.
+// The source keeps its blocks, which are free, until it is killed.
 #[test]
 fn each_value_is_dropped_once_after_its_bucket_is_killed(rt: HostRuntime) -> Result<(), Fail> {
     let counted = Rc::new(rt.alloc(), 0)?;
@@ -297,11 +296,11 @@ fn each_value_is_dropped_once_after_its_bucket_is_killed(rt: HostRuntime) -> Res
 // The length of an array of eight parts.
 const LENGTH: usize = 512;
 
-// How many pairs are inserted into which of its buckets: at an end of the first part and of the
-// last one, and in the midst of a part. Two of these buckets need a chain.
+// The buckets that pairs are inserted into, each with their number: at an end of the first part and
+// of the last one, and in the middle of a part. Two of these buckets need a chain.
 const TOUCHED: [(usize, u64); 4] = [(0, 1), (300, 40), (510, 33), (511, 2)];
 
-// How many pairs these are.
+// How many pairs these are in all.
 const PAIRS: usize = 76;
 
 #[test]

@@ -1,5 +1,5 @@
-//! Buckets without a pair that have 100,000 blocks: a search doesn't go over the blocks. With one
-//! that does the test doesn't end within its time limit.
+//! Buckets without a pair that have 100,000 blocks: a search doesn't go over the blocks. If it did,
+//! the test would exceed its time limit.
 use crate::by_key::{mark_key, remove_at};
 use crate::checks::check_same;
 use bucket_slots::bucket::{Bucket, EqProbe, INDEX, MAP};
@@ -44,7 +44,7 @@ fn emptied<const TYPE: u8>(alloc: Global, pairs: u64) -> Result<Pairs<TYPE>, Fai
     Ok(bucket)
 }
 
-// No call finds a key.
+// Checks that no call finds a key.
 fn check_misses<const TYPE: u8>(rt: &impl Abort, bucket: &Pairs<TYPE>, pairs: u64) {
     let mut missed: u64 = 0;
     for key in 0..LOOKED_UP {

@@ -17,19 +17,20 @@ type Index = Table<(), INDEX>;
 /// in the slot of its number.
 type Story = (&'static str, &'static [Step]);
 
-/// A setting for the steps that follow, or a call with the answer that is wanted.
+/// A setting for the steps that follow, or a call with its expected answer.
 enum Step {
     /// Set the epoch from here on, and which tombstones are kept. At first it is 0, and all are.
     SetEpoch(u8, Kept),
-    /// Remove the pairs of keys below a number by a sweep: so many.
+    /// Remove the pairs of keys below a number by a sweep: this many.
     Sweep(u64, usize),
-    /// Remove the pairs of keys below a number by `retain`, which asks for each live pair: so many.
+    /// Remove the pairs of keys below a number by `retain`, which calls its function for each live
+    /// pair: this many.
     Retain(u64, usize),
-    /// Clear the table of so many pairs by a script.
+    /// Clear the table, which has this many pairs, by a script.
     Clear(usize),
     /// Remove a key, which is its own value, by a script.
     Remove(u64),
-    /// Insert a new key, which is in this place then.
+    /// Insert a new key, which is then in this place.
     Insert(u64, Spot),
 }
 
@@ -72,7 +73,7 @@ fn calls_on_an_index_mark_with_their_epoch(rt: HostRuntime) -> Result<(), Fail> 
     Ok(())
 }
 
-// An index with no pair, of 64 slots and no more.
+// An index with no pair, whose minimum and maximum are 64 slots.
 fn new_index(alloc: Global) -> Index {
     HashTable::new(alloc, ScriptHash::Zero, 64, 64)
 }
@@ -88,7 +89,7 @@ fn retain_from(table: &mut Index, from: u64, now: &Answers) -> usize {
     asked
 }
 
-// Takes one step after another, and compares its result.
+// Takes one step after another, and checks each result.
 fn play(
     rt: &impl Abort,
     alloc: Global,
@@ -130,7 +131,7 @@ fn play(
     Ok(())
 }
 
-// Does one call as a script.
+// Makes one call as a script.
 fn reply_to(
     alloc: Global,
     table: &mut Index,

@@ -1,4 +1,4 @@
-//! A caller of the table: goes on from the pair of a key.
+//! A caller of the table that continues from the pair of a key.
 ghost use Rattle.std.specs.Prelude.{◌≡◌, IfOk, OnErr};
 ghost use Rattle.bucket_slots.specs.BucketView.{null_place};
 ghost use Rattle.bucket_table.specs.Map.MapState.{KeepsPairs, state_of};

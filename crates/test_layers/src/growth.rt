@@ -12,8 +12,8 @@ use bucket_table::script::{ScriptHash, run};
 use std::test::Fail;
 use test_helpers::steps;
 
-// Under the hash that spreads low bytes: of two buckets the first has the keys below 128, of four
-// the first has those below 64, and the third those from 128 to 191. The bucket that a writer is
+// Under the hash that spreads low bytes, the first of two buckets has the keys below 128. The first
+// of four has those below 64, and the third those from 128 to 191. The bucket that a writer is
 // given is found before the growth, so key 31 goes to the old array.
 pub(crate) const DOUBLED: &[Step] = steps! {
     InsertRange(0..31), InsertRange(128..159), Expect(Slots(64, None)),
@@ -51,8 +51,8 @@ const STORIES: &[Story] = steps! {
             Lock(FindReserved(0, 0)), Expect(Slots(64, None)), Count(0), Expect(Slots(0, None)),
             Rehash(MakeArray(2)), Expect(Slots(64, None)), Rehash(MakeArray(2)), Count(0),
             Expect(Slots(0, None)) } },
-    // All pairs are in the second bucket, where no growth by itself looks, and 256 is the least
-    // power of two whose half isn't below 100.
+    // All pairs are in the second bucket, which an automatic growth doesn't look at. 256 is the
+    // least power of two whose half isn't below 100.
     Story { name: "a resize that is asked for comes once", hasher: ScriptHash::Spread, minimum: 0,
         start: steps! { InsertRange(128..228), Expect(Slots(64, None)) }, steps: steps! {
             Rehash(TryResize(true)), Expect(Slots(256, Some(0))), Rehash(TryResize(false)),
@@ -74,7 +74,7 @@ const STORIES: &[Story] = steps! {
             Lock(FindBucket(0, 0)), Expect(Slots(64, None)) }, steps: steps! {
             Rehash(TryResize(true)), Expect(Slots(0, None)), Rehash(TryResize(false)),
             Expect(Slots(0, None)) } },
-    // Half of all hashes are the second bucket's.
+    // The second bucket has half of all hashes.
     Story { name: "the upper bits of a hash choose its bucket", hasher: ScriptHash::Id, minimum: 0,
         start: &[], steps: steps! {
             Lock(FindBucket(9223372036854775807, 0)), Lock(FindBucket(9223372036854775808, 1)),
@@ -109,7 +109,7 @@ fn a_new_table_answers_what_it_was_made_of(rt: HostRuntime) -> Result<(), Fail> 
         check_same(&rt, table.array().is_none(), true, *key);
         check_same(&rt, table.calculate_bucket_index(*hash), 0, *key);
 
-        // No calls have no replies.
+        // An empty list of calls has no replies.
         let replies = run(rt.alloc(), &mut table, Vec::new(rt.alloc()), &())?;
         check_same(&rt, (replies.len(), table.num_slots()), (0, 0), *key);
     }

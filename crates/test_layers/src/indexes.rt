@@ -34,7 +34,7 @@ pub(crate) const INSERTIONS: &[Story] = stories! {
         Insert(41, (1, 1)), Insert(42, (1, 3)), Insert(43, (1, 0)), Expect(Len(36)),
         Expect(OwnSlot(7, Some(7))), Expect(Place(34, Some((2, 2)))),
         Expect(Place(42, Some((2, 3))));
-    // Two free blocks stand behind one full of live pairs. The original drops both before key 40 is
+    // Two free blocks are behind one full of live pairs. The original drops both before key 40 is
     // inserted, and allocates again; here the last of them is dropped after the insertion.
     "a pair is placed before free blocks go", 36:
         Mark(&[7]), Reserve(8), Insert(40, (2, 0)), Expect(Place(32, Some((1, 0)))),
@@ -56,16 +56,16 @@ pub(crate) const INSERTIONS: &[Story] = stories! {
 };
 
 pub(crate) const RESERVATIONS: &[Story] = stories! {
-    // Here 4 more than the 28 live pairs are 32, the own slots; and yet none of these is free. The
-    // original compares those numbers and adds no block. The second reservation adds none, so that
-    // key 36 makes a new head.
+    // The 28 live pairs and 4 more are as many as the 32 own slots, but none of these is free. The
+    // original compares those numbers and adds no block. The second reservation adds none, so key
+    // 36 makes a new head.
     "marked slots count as taken", 40:
         Swap, InsertRange(0..32), Mark(&[0, 1, 2, 3]), Expect(Len(28)), Reserve(4), Reserve(4),
         Expect(Len(28)), Move(32, Some((1, 0))), Move(33, Some((1, 1))), Move(34, Some((1, 2))),
         Move(35, Some((1, 3))), Expect(Lens(32, 36)), Move(36, Some((1, 0))),
         Expect(Place(32, Some((2, 0)))), Expect(Place(35, Some((2, 3))));
-    // What is reserved stands behind the block of live pairs, while a block that a move has to
-    // make stands before it.
+    // The reserved block is behind the block of live pairs, while a block that a move has to make
+    // is before it.
     "what is reserved for marked slots stands at the end", 44:
         Swap, InsertRange(0..36), Mark(&[0, 1, 2, 3]), Reserve(4), Reserve(4),
         Move(36, Some((2, 0))), Move(37, Some((2, 1))), Move(38, Some((2, 2))),
@@ -80,19 +80,19 @@ pub(crate) const RESERVATIONS: &[Story] = stories! {
         Insert(40, (0, 0)), Insert(41, (0, 1)), Insert(42, (0, 2)), Insert(43, (0, 3)),
         Insert(44, (1, 0)), Insert(45, (1, 1)), Insert(46, (1, 2)), Insert(47, (1, 3)),
         Insert(48, (1, 0)), Expect(Place(44, Some((2, 0))));
-    // Ten blocks were reserved: key 36 stands in the second of them.
+    // Ten blocks were reserved: key 36 is in the second of them.
     "a killed bucket of an index keeps its chain", 0:
         Set(Values(0, 0)), Reserve(72), Kill(true), InsertRange(0..36), Insert(36, (2, 0));
 };
 
 pub(crate) const CLEARINGS: &[Story] = stories! {
-    // The chain's first slot is taken.
+    // The chain's first slot is occupied.
     "a clearing that keeps every mark changes nothing", 33:
         Expect(Place(32, Some((1, 0)))), Mark(&[0, 1, 32]), Expect(Len(30)),
         ClearTombstones(ALL_OWN), Expect(Len(30)), ClearTombstones(ALL_OWN), Expect(Len(30)),
         Expect(OwnSlot(0, Some(0))), Expect(OwnSlot(1, Some(1))), Expect(OwnSlot(2, Some(2))),
         Insert(40, (1, 1));
-    // All own slots but 0 and 1 are occupied then, and the chain has gone.
+    // All own slots but 0 and 1 are occupied then, and the chain is dropped.
     "a clearing that keeps no mark frees the marked slots", 33:
         Expect(Place(32, Some((1, 0)))), Mark(&[0, 1, 32]), Expect(Len(30)), LET_GO,
         ClearTombstones(4294967292), Expect(Len(30)), Expect(OwnSlot(0, None)),
@@ -108,8 +108,8 @@ pub(crate) const CLEARINGS: &[Story] = stories! {
         LET_GO, ClearTombstones(ALL_OWN), Expect(Len(32)), Expect(Present(0..32));
     "a clearing of a chain without marks changes nothing", 37:
         LET_GO, ClearTombstones(ALL_OWN), Expect(Len(37)), Expect(Present(0..37));
-    // Of keys 0 to 36 the chain is [36], [32 to 35]. Of the pairs that are inserted after a
-    // clearing the fifth shows whether one block, two or none are left.
+    // With keys 0 to 36, the chain is [36], [32 to 35]. The fifth pair that is inserted after a
+    // clearing shows whether one block, two or none are left.
     "a chain of free blocks goes", 37:
         Mark(&[32, 33, 34, 35, 36]), LET_GO, ClearTombstones(ALL_OWN), KEEP, Insert(50, (1, 0)),
         Insert(51, (1, 1)), Insert(52, (1, 2)), Insert(53, (1, 3)), Insert(54, (1, 0));
@@ -161,8 +161,8 @@ macro_rules! seven_marked {
 
 pub(crate) const SEVEN_MARKED: &[Story] = seven_marked!(7, 0, 6, 255);
 
-// Each slot has an epoch of its own, from a multiple of 32 on. What is left is the sum of 2^i over
-// each i below 32 that leaves the rest, since the divisors divide 32.
+// Each slot has an epoch of its own, from a multiple of 32 on. The occupied slots are the sum of
+// 2^i over each i below 32 that leaves the remainder, since the divisors divide 32.
 macro_rules! by_rest {
     ($($first:literal, $divisor:literal, $rest:literal => $left:literal);+) => {
         &[$((

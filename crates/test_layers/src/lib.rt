@@ -1,6 +1,6 @@
 //! Tests of buckets, of arrays of buckets, of tables and of scripts, in one crate at the top,
 //! since a crate with tests is proved twice. The functions that aren't tests show that generic
-//! code reaches a bucket behind a vector, and what a caller can say of calls of a table.
+//! code reaches a bucket behind a vector, and what a caller can state about calls of a table.
 #![tactic(auto)]
 
 #[cfg(test)]

@@ -18,7 +18,7 @@ pub(crate) const PLACES: &[Story] = stories! {
     "the lowest of several free slots is taken first", 32:
         Remove(9, Some((0, 9))), Remove(4, Some((0, 4))), Remove(30, Some((0, 30))),
         Insert(40, (0, 4)), Insert(41, (0, 9)), Insert(42, (0, 30));
-    // The block that was the head stands behind the new one then.
+    // The block that was the head is behind the new one then.
     "a pair that finds no free slot makes a new head", 32:
         Insert(32, (1, 0)), Insert(33, (1, 1)), Insert(34, (1, 2)), Insert(35, (1, 3)),
         Insert(36, (1, 0)), Expect(Len(37)), Expect(Place(36, Some((1, 0)))),
@@ -52,17 +52,17 @@ pub(crate) const PLACES: &[Story] = stories! {
         Set(Values(0, 0)), Set(Hashes(0, 31)), InsertRange(0..34), Expect(Len(34)),
         Expect(Present(0..34)), Expect(Absent(34..68)), RemoveRange(0..34), Expect(Len(0)),
         Expect(Absent(0..34)), Walk(Next(None, (0, 32)));
-    // No slot is free after ten pairs, so that the next makes a new head.
+    // No slot is free after ten pairs, so the next pair makes a new head.
     "reserved slots take the pairs that come", 30:
         Reserve(10), Reserve(10), Expect(Len(30)), Insert(30, (0, 30)), Insert(31, (0, 31)),
         Insert(32, (1, 0)), Insert(33, (1, 1)), Insert(34, (1, 2)), Insert(35, (1, 3)),
         Insert(36, (2, 0)), Insert(37, (2, 1)), Insert(38, (2, 2)), Insert(39, (2, 3)),
         Insert(40, (1, 0)), Expect(Place(32, Some((2, 0)))), Expect(Place(39, Some((3, 3))));
-    // With the two blocks that were reserved, key 36 would stand in the second.
+    // With the two blocks that were reserved, key 36 would be in the second.
     "a killed bucket gives its chain up", 0:
         Set(Values(0, 0)), Reserve(40), Kill(true), Expect(Killed(true)), Kill(false),
         InsertRange(0..37), Expect(Place(36, Some((1, 0)))), Expect(Place(32, Some((2, 0))));
-    // Of ten blocks: key 36 stands in the second that had to be made.
+    // None of ten reserved blocks is left: key 36 is in the second block that had to be made.
     "a killed bucket of a map keeps no block", 0:
         Set(Values(0, 0)), Reserve(72), Kill(true), InsertRange(0..36), Insert(36, (1, 0));
 };
@@ -107,7 +107,7 @@ pub(crate) const MOVES: &[Story] = stories! {
         Expect(Absent(1..2)), Set(Hashes(5, 0)), Move(1, None);
 };
 
-// In the first and the last own slot, and in each block of the chain.
+// The keys are in own slots, among them the first and the last, and in each block of the chain.
 macro_rules! written {
     ($($key:literal),+) => {
         &[$((

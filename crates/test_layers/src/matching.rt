@@ -5,7 +5,7 @@ use crate::checks::check_same;
 use bucket_slots::matcher::match_partial_hash;
 use std::process::Abort;
 
-// Thirty-two zero bytes, but for the last.
+// Thirty-two bytes, all zero except the last.
 const LAST_IS_NINE: [u8; 32] = [
     0, 0, 0, 0, 0, 0, 0, 0, 0, 0, 0, 0, 0, 0, 0, 0, 0, 0, 0, 0, 0, 0, 0, 0, 0, 0, 0, 0, 0, 0, 0, 9,
 ];
@@ -27,7 +27,7 @@ const WHOLE_ROWS: [([u8; 32], u8, u32); 4] = [
     (LAST_IS_NINE, 1, 0),
 ];
 
-// Places in a row, a bit each: none, all, and every one of each residue modulo 2 and 3.
+// Sets of places in a row, a bit each: none, all, and those of each residue modulo 2 and 3.
 const PLACES: [u32; 7] = [
     0, 0xFFFFFFFF, 0x55555555, 0xAAAAAAAA, 0x49249249, 0x92492492, 0x24924924,
 ];
@@ -57,7 +57,7 @@ fn agrees_with_a_loop_on_every_byte_at_each_place(rt: HostRuntime) {
     }
 }
 
-// The matcher, a loop and the places say the same.
+// Checks that the matcher and a loop return the mask of the places.
 fn check_row<const LEN: usize>(rt: &impl Abort, bytes: &[u8; LEN], byte: u8, places: u32)
     requires { LEN ≤ 32 }
 {

@@ -8,10 +8,10 @@ type Pairs = Bucket<u64, u64, (), MAP>;
 
 type At = EntryPtr<u64, u64, MAP>;
 
-// Hashes with different bytes, each with the byte that stands beside its pair.
+// Hashes with different bytes, each with the byte that is stored beside its pair.
 const HASHES: [(u64, u8); 4] = [(0, 0), (255, 255), (256, 0), (4660, 52)];
 
-// Whether a pointer is valid, and where it stands.
+// Whether a pointer is valid, and its place.
 fn named(at: &At) -> (bool, usize, usize) {
     (at.is_valid(), at.block(), at.pos())
 }

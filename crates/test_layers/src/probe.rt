@@ -15,7 +15,7 @@ use bucket_slots::lru::LruList;
 
 /// Returns the number of live slots of one bucket of a vector.
 ///
-/// Takes no memory. O(1). Own.
+/// Allocates nothing. O(1).
 pub fn len_at<K, V, L: LruList, const TYPE: u8>(
     buckets: &Vec<Bucket<K, V, L, TYPE>>,
     index: usize,
@@ -27,13 +27,13 @@ pub fn len_at<K, V, L: LruList, const TYPE: u8>(
     buckets[index].len()
 }
 
-/// Inserts a pair into one bucket of a vector and returns where it stands there.
+/// Inserts a pair into one bucket of a vector and returns its place there.
 ///
 /// # Errors
 ///
 /// Allocation failure: the pair is returned and the buckets are as they were.
 ///
-/// O(blocks in the bucket's chain). Own.
+/// O(blocks in the bucket's chain).
 pub fn insert_at<K: Drop, V: Drop, L: LruList, G: Generation, const TYPE: u8>(
     buckets: &mut Vec<Bucket<K, V, L, TYPE>>,
     index: usize,

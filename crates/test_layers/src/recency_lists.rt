@@ -1,4 +1,4 @@
-//! LRU lists on their own, as their owner keeps them.
+//! LRU lists on their own, with the tail that their owner keeps.
 ghost use Rattle.std.specs.Prelude.{◌<◌, ℕ, List};
 
 use crate::checks::check_same;
@@ -25,14 +25,14 @@ impl<L: LruList> Model for Recent<L> {
 
 /// A call on a list of slots below 32, with its answer.
 enum Act {
-    /// This slot is evicted, and the tail is that then; or none is evicted.
+    /// Evict a slot: this slot and the new tail, or none.
     Evict(Option<(u8, u32)>),
-    /// A slot is removed, and the tail is that then, if it changes.
+    /// Remove a slot: the new tail, if it changes.
     Remove(u8, Option<u32>),
-    /// A slot is the newest, and the tail is that then, where it changes.
+    /// Make a slot the newest: the new tail, if it changes.
     Promote(u8, Option<u32>),
-    /// A slot that is off the list, or is taken off, is the oldest, and the tail is that then,
-    /// where nothing was listed.
+    /// Make a slot the oldest, after removing it if it is listed: the new tail, if no other slot is
+    /// listed.
     Append(u8, Option<u32>),
 }
 
@@ -44,14 +44,14 @@ impl<L: LruList> Recent<L> {
         }
     }
 
-    // Makes the calls one after another, and compares each answer.
+    // Makes the calls one after another, and checks each answer.
     fn play(&mut self, rt: &impl Abort, story: &str, acts: &[Act]) {
         for (row, act) in acts.iter().enumerate() {
             self.act(rt, (story, row), act);
         }
     }
 
-    // Makes a call, and compares its answer.
+    // Makes a call, and checks its answer.
     fn act(&mut self, rt: &impl Abort, row: (&str, usize), act: &Act) {
         match act {
             Evict(wanted) => {
@@ -80,7 +80,7 @@ impl<L: LruList> Recent<L> {
         }
     }
 
-    // Takes a slot off, where it is listed, and puts it at the oldest end.
+    // Removes a slot if it is listed, and puts it at the oldest end.
     fn append(&mut self, slot: u8) -> Option<u32>
         requires { slot < 32 }
     {

@@ -8,12 +8,12 @@ use bucket_table::script::ScriptHash;
 use std::process::Abort;
 use std::test::Fail;
 
-// Whether the growth put this key, as its own value.
+// Whether the growth inserted this key, as its own value.
 fn is_put(key: u64) -> bool {
     key < 32 || (128 <= key && key < 159)
 }
 
-// Keeps the keys that three doesn't divide, with one more as their values. Returns how often the
+// Keeps the keys that three doesn't divide, and adds one to each value. Returns how often the
 // function was called, and how many pairs were removed.
 fn retain_some(table: &mut Map) -> (usize, usize) {
     let mut asked: usize = 0;
@@ -26,7 +26,8 @@ fn retain_some(table: &mut Map) -> (usize, usize) {
     (asked, gone)
 }
 
-// Each key that was put is kept once more, or gone.
+// Checks that the keys that three doesn't divide were kept this many times, and that the others
+// were removed.
 fn check_kept(rt: &impl Abort, table: &Map, times: u64) {
     for key in 0..160 {
         let value = times.wrapping_add(key);

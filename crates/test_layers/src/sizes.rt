@@ -23,7 +23,7 @@ type Array = BucketArray<u64, u64, (), MAP>;
 // The greatest capacity of a table.
 const M: usize = 1 << 63;
 
-// The greatest number.
+// The greatest `usize`.
 const MAX: usize = usize::MAX;
 
 /// A call, with its answer last.
@@ -32,7 +32,7 @@ enum Size {
     Rule(Rule),
 }
 
-/// A call on an array that is made, or that can't be.
+/// A call on a new array, or one whose allocation fails.
 enum Made {
     /// The slots and the length of an array for a capacity; none if that fails.
     Extent(usize, Option<(usize, usize)>),
@@ -40,11 +40,12 @@ enum Made {
     ArraySamples(usize, (usize, usize, usize)),
     /// The home of a hash in an array for a capacity.
     Home(usize, u64, usize),
-    /// Whether a hash starts a sampling there: where its low byte is below the large sample.
+    /// Whether a hash starts a sampling there: whether its low byte is a multiple of the large
+    /// sample.
     Starts(usize, u64, bool),
 }
 
-/// A call that takes no memory.
+/// A call that allocates nothing.
 enum Rule {
     /// The small, the large and the full sample of a length.
     Samples(usize, (usize, usize, usize)),
@@ -52,7 +53,7 @@ enum Rule {
     Full(usize, usize, bool),
     /// Whether they are too empty.
     Empty(usize, usize, bool),
-    /// The best capacity for a capacity and a number of entries, between a least and a greatest.
+    /// The best capacity, given the present one, a number of entries, a minimum and a maximum.
     Best(usize, usize, usize, usize, usize),
     /// The least capacity of all.
     Least(usize),
@@ -60,7 +61,7 @@ enum Rule {
     For(usize, usize),
     /// The number of entries that a hint promises, which is its upper bound.
     Hint(usize, Option<usize>, usize),
-    /// Of an array's length, another's, and an index in the first, its range in the second.
+    /// Given an array's length, another's, and an index in the first: its range in the second.
     IndexRange(usize, usize, usize, (usize, usize)),
 }
 
@@ -69,7 +70,7 @@ const SIZES: &[Size] = steps! {
     Made(Extent(65, Some((128, 4)))), Made(Extent(128, Some((128, 4)))),
     Made(Extent(129, Some((256, 8)))), Made(Extent(1000, Some((1024, 32)))),
     Made(Extent(4096, Some((4096, 128)))),
-    // These pass the address space.
+    // These exceed the address space.
     Made(Extent(MAX, None)), Made(Extent(1 << 63, None)), Made(Extent(1 << 62, None)),
 
     Made(ArraySamples(64, (1, 1, 2))), Made(ArraySamples(512, (4, 4, 16))),
@@ -95,7 +96,7 @@ const SIZES: &[Size] = steps! {
     Rule(For(1 << 62, 1 << 62)), Rule(For(MAX, 1 << 62)), Rule(Hint(3, None, 3)),
     Rule(Hint(3, Some(9), 9)), Rule(Hint(MAX, Some(0), 0)),
 
-    // Two buckets: the upper half of the hashes is at home in the second. And eight buckets.
+    // With two buckets, the second is the home of the upper half of the hashes. Then eight buckets.
     Made(Home(64, 0, 0)), Made(Home(64, (1 << 63) - 1, 0)), Made(Home(64, 1 << 63, 1)),
     Made(Home(64, u64::MAX, 1)), Made(Extent(256, Some((256, 8)))), Made(Starts(256, 0, true)),
     Made(Starts(256, 4, true)), Made(Starts(256, 6, false)), Made(Starts(256, 3, false)),
@@ -120,7 +121,7 @@ fn sizes_are_those_of_the_rules(rt: HostRuntime) -> Result<(), AllocError> {
     Ok(())
 }
 
-// Makes a call on an array that is made, and compares its answer.
+// Makes a call on an array that is made, and checks its answer.
 fn check_made(rt: &impl Abort, alloc: Global, row: usize, call: &Made) -> Result<(), AllocError> {
     match *call {
         Extent(capacity, extent) => {
@@ -153,7 +154,7 @@ fn check_made(rt: &impl Abort, alloc: Global, row: usize, call: &Made) -> Result
     Ok(())
 }
 
-// Makes a call that takes no memory, and compares its answer.
+// Makes a call that allocates nothing, and checks its answer.
 fn check_rule(rt: &impl Abort, row: usize, call: &Rule) {
     match *call {
         Samples(len, samples) => {
@@ -213,7 +214,7 @@ fn best_capacity(
     Array::optimal_capacity(slots, entries, least, greatest)
 }
 
-/// The number again, known to be a power of two.
+/// Returns the number, and checks that it is a power of two.
 pub(crate) fn power_of_two(rt: &impl Abort, n: usize) -> usize
     ensures value { result ≡ n }
     ensures power { IsPowerOfTwo result }
@@ -224,7 +225,7 @@ pub(crate) fn power_of_two(rt: &impl Abort, n: usize) -> usize
     power
 }
 
-// The number again, known to be a power of two up to a bound.
+// Returns the number, and checks that it is a power of two up to a bound.
 fn power_up_to(rt: &impl Abort, n: usize, most: usize) -> usize
     requires { most ≤ 2 ^ 63 }
     ensures value { result ≡ n }

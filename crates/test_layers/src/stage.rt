@@ -1,5 +1,6 @@
-//! The stage of a story: a bucket of any kind, with any LRU list, and what steps do there. A step
-//! whose result isn't the expected one prints its story, its row, the call and both results.
+//! The stage of a story: a bucket of any kind, with any LRU list, and functions that take steps on
+//! it. If a step's result isn't the expected one, it prints its story, its row, the call and both
+//! results.
 use crate::by_key::{
     insert_oldest, kill_empty, mark_key, move_key, remove_at, touch_key, write_key,
 };
@@ -54,7 +55,7 @@ impl<L: LruList, const TYPE: u8> Stage<L, TYPE> {
         self.play(rt, story, steps)
     }
 
-    /// Takes one step after another, and compares what each finds.
+    /// Takes one step after another, and checks what each finds.
     pub(crate) fn play(
         &mut self,
         rt: &impl Abort,
@@ -72,7 +73,7 @@ impl<L: LruList, const TYPE: u8> Stage<L, TYPE> {
         self.bucket.data_block().key(slot).copied()
     }
 
-    /// Takes the step of a row, and compares what it finds.
+    /// Takes the step of a row, and checks what it finds.
     pub(crate) fn step(
         &mut self,
         rt: &impl Abort,
@@ -149,7 +150,7 @@ impl<L: LruList, const TYPE: u8> Stage<L, TYPE> {
         Ok(Some((at.block(), at.pos())))
     }
 
-    // Inserts keys, and touches them where that is asked.
+    // Inserts keys, and touches them if `touches` is true.
     fn insert_range(
         &mut self,
         rt: &impl Abort,
@@ -214,7 +215,7 @@ impl<L: LruList, const TYPE: u8> Stage<L, TYPE> {
         touch_key(&mut self.bucket, key, hash)
     }
 
-    // An eviction takes the pair of this key out, or none.
+    // Checks that an eviction removes the pair of this key, or none.
     fn check_evicted(&mut self, rt: &impl Abort, row: (&str, usize), key: Option<u64>) {
         let pair = match key {
             Some(key) => Some((key, self.value_of(key))),
@@ -223,7 +224,7 @@ impl<L: LruList, const TYPE: u8> Stage<L, TYPE> {
         check_same(rt, self.evict(), Some(pair), (row, "evict"));
     }
 
-    // The pair that an eviction takes out of a cache, if any.
+    // Evicts a pair from a bucket of a cache, if there is one to evict, and returns it.
     fn evict(&mut self) -> Option<Option<(u64, u64)>> {
         if TYPE != CACHE {
             return None;
@@ -231,7 +232,7 @@ impl<L: LruList, const TYPE: u8> Stage<L, TYPE> {
         Some(self.bucket.evict_lru_head())
     }
 
-    // Takes the LRU order, which has these slots and then bytes of 0.
+    // Takes the LRU order, and checks that it has these slots and then bytes of 0.
     fn take_order(&mut self, rt: &impl Abort, row: (&str, usize), slots: &[u8]) {
         let (order, len) = self.bucket.take_lru();
         check_same(rt, len, slots.len(), (row, "take order"));
@@ -246,7 +247,7 @@ impl<L: LruList, const TYPE: u8> Stage<L, TYPE> {
         mark_key(&mut self.bucket, key, hash, &self.now)
     }
 
-    // Marks keys, which are present once.
+    // Marks keys, and checks that each can be marked only once.
     fn mark_keys(&mut self, rt: &impl Abort, row: (&str, usize), keys: &[u64]) {
         for key in keys {
             let marked = (self.mark(*key), self.mark(*key));
@@ -262,7 +263,7 @@ impl<L: LruList, const TYPE: u8> Stage<L, TYPE> {
         }
     }
 
-    // What a clearing of an index returns.
+    // Clears a bucket of an index, and returns the call's result.
     fn clear(&mut self) -> Option<u32> {
         if TYPE != INDEX {
             return None;
@@ -299,7 +300,7 @@ impl<L: LruList, const TYPE: u8> Stage<L, TYPE> {
         Some(*self.at.key(&self.bucket))
     }
 
-    // Compares what is seen of the bucket.
+    // Checks an expectation about the bucket.
     fn check_expected(&self, rt: &impl Abort, row: (&str, usize), wanted: &Expect) {
         match wanted {
             Place(key, spot) => {
@@ -339,7 +340,7 @@ impl<L: LruList, const TYPE: u8> Stage<L, TYPE> {
         }
     }
 
-    // The keys that `for_each` visits are these, in this order.
+    // Checks that `for_each` visits these keys, in this order.
     fn check_each(&self, rt: &impl Abort, row: (&str, usize), keys: &[u64]) {
         let mut came: usize = 0;
         let mut in_order = true;
@@ -351,7 +352,8 @@ impl<L: LruList, const TYPE: u8> Stage<L, TYPE> {
         check_same(rt, (came, in_order), (keys.len(), true), (row, "each"));
     }
 
-    // Where the pointer to a key stands, if the searches find it with its value.
+    // Returns the place of a key, if it is present. Checks that all searches find it with its
+    // value, or that none finds it.
     fn find(&self, rt: &impl Abort, row: (&str, usize), key: u64) -> Option<Spot> {
         let hash = self.hash_of(key);
         let value = self.value_of(key);
@@ -378,7 +380,7 @@ impl<L: LruList, const TYPE: u8> Stage<L, TYPE> {
         Some((block, pos))
     }
 
-    // An own slot has this key, with its value, or none.
+    // Checks that an own slot has this key with its value, or none.
     fn own(&self, rt: &impl Abort, row: (&str, usize), slot: usize, key: Option<u64>) {
         let block = self.bucket.data_block();
         let value = match key {

@@ -24,7 +24,7 @@ pub(crate) enum Kept {
     All,
     /// No tombstone.
     None,
-    /// Those that leave this rest, divided by the divisor.
+    /// Those that leave this remainder when divided by the divisor.
     Rest(u8, u8),
     /// All but one.
     But(u8),
@@ -42,7 +42,7 @@ impl Kept {
     }
 }
 
-/// A setting for the steps that follow, a call with the answer that is wanted, or what is seen.
+/// A setting for the steps that follow, a call with its expected answer, or an expectation.
 #[derive(Drop)]
 pub(crate) enum Step {
     Set(Set),
@@ -52,27 +52,28 @@ pub(crate) enum Step {
     InsertRange(Range<u64>),
     /// Insert keys, and touch each.
     InsertAndTouch(Range<u64>),
-    /// Insert a key, which is in this place then.
+    /// Insert a key, which is then in this place.
     Insert(u64, Spot),
-    /// Insert a key as the oldest. It is in this place then.
+    /// Insert a key as the oldest. It is then in this place.
     InsertOldest(u64, Spot),
     /// Move a key from the other bucket, where it is no longer found. It is in this place now.
     Move(u64, Option<Spot>),
-    /// Reserve so many free slots.
+    /// Reserve this many free slots.
     Reserve(usize),
     /// Remove keys with their values.
     RemoveRange(Range<u64>),
-    /// Remove a key with its value, which leaves the walk's pointer there; or there is none.
+    /// Remove a key with its value, which leaves the walk's pointer in this place; or the key is
+    /// absent.
     Remove(u64, Option<Spot>),
     /// Write a key's value: this was the earlier one.
     Write(u64, u64, Option<u64>),
-    /// Touch a key, if it is present.
+    /// Touch a key: whether it is present.
     Touch(u64, bool),
     /// Evict a pair, which has this key and its value; or none.
     Evict(Option<u64>),
-    /// Take the LRU order: these own slots are listed, newest first, and none is then.
+    /// Take the LRU order: these own slots are listed, newest first. After that, none is.
     TakeOrder(&'static [u8]),
-    /// Mark the pairs of these keys as removed. They aren't found a second time.
+    /// Mark the pairs of these keys as removed. They can't be marked again.
     Mark(&'static [u64]),
     /// Mark the pairs of keys as removed, and raise the epoch by a number after each.
     MarkRange(Range<u64>, u8),
@@ -89,13 +90,13 @@ pub(crate) enum Step {
 pub(crate) enum Set {
     /// A key's hash: a number, plus the bits of the key under a mask. At first 0.
     Hashes(u64, u64),
-    /// A key's value: the key so many times, plus a number. At first ten times.
+    /// A key's value: the key times a number, plus another one. At first it is ten times the key.
     Values(u64, u64),
     /// The epoch, and which tombstones are kept. At first it is 0, and all are.
     Epoch(u8, Kept),
 }
 
-/// A walk goes on.
+/// Steps of a walk.
 #[derive(Drop)]
 pub(crate) enum Walk {
     /// The next key, and where the pointer is then.
@@ -109,17 +110,17 @@ pub(crate) enum Walk {
 /// What is expected of the bucket.
 #[derive(Drop)]
 pub(crate) enum Expect {
-    /// Both searches find a key with its value, and its pointer is there; or none finds it.
+    /// All searches find a key with its value, in this place; or none finds it.
     Place(u64, Option<Spot>),
-    /// Keys are found so.
+    /// All searches find these keys with their values.
     Present(Range<u64>),
-    /// Keys aren't found.
+    /// No search finds these keys.
     Absent(Range<u64>),
     /// Keys are found in the own slots of their numbers.
     InOwnSlots(Range<u64>),
     /// An own slot has this key, live or a tombstone, with its value, or none.
     OwnSlot(usize, Option<u64>),
-    /// Own slots have none.
+    /// These own slots have no key.
     FreeSlots(Range<usize>),
     /// The pair that was moved last from the other bucket was in that place.
     MovedFrom(Spot),
@@ -127,7 +128,7 @@ pub(crate) enum Expect {
     Each(&'static [u64]),
     /// How many live pairs there are.
     Len(usize),
-    /// How many there are in both buckets.
+    /// How many there are in each of both buckets.
     Lens(usize, usize),
     /// Whether the bucket is killed.
     Killed(bool),
@@ -138,7 +139,7 @@ pub(crate) enum Expect {
 pub(crate) struct Answers {
     /// The byte that a tombstone gets now.
     pub(crate) epoch: u8,
-    /// Whether a tombstone is kept, for each.
+    /// Whether a tombstone is kept, for each of the 256.
     pub(crate) kept: [bool; 256],
 }
 

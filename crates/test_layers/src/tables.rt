@@ -1,5 +1,5 @@
-//! Steps on a table: calls, and what is seen of the table then. A story is a list of steps on a new
-//! table.
+//! Steps on a table: calls with their results, and expectations. A story is a list of steps on a
+//! new table.
 ghost use Rattle.std.specs.Prelude.{◌≤◌};
 
 use crate::by_lock::{Map, home_of, index_of, place_of, put_at, reserved_index_of, take_at};
@@ -15,34 +15,34 @@ use std::process::Abort;
 use std::test::Fail;
 use test_helpers::At;
 
-/// What happens on a new map, whose greatest capacity is 2^63 slots.
+/// Steps on a new map with a maximum of 2^63 slots.
 pub(crate) struct Story {
     pub(crate) name: &'static str,
     pub(crate) hasher: ScriptHash,
-    /// The least capacity, up to 4,096 slots.
+    /// The minimum, up to 4,096 slots.
     pub(crate) minimum: usize,
-    /// What happens first.
+    /// The steps that come first.
     pub(crate) start: &'static [Step],
     pub(crate) steps: &'static [Step],
 }
 
-/// A call with its result, or what is seen of the table.
+/// A call with its expected result, or an expectation.
 pub(crate) enum Step {
     /// Insert keys, each as its own value.
     InsertRange(Range<u64>),
-    /// Remove keys, each with its own value. Where a bucket is left empty the table may shrink.
+    /// Remove keys, each with its own value. If a bucket is left empty, the table may shrink.
     RemoveRange(Range<u64>),
     /// Read a key, which has itself as its value. A read moves pairs.
     Read(u64),
-    /// Count so many pairs, which moves pairs.
+    /// Count the pairs, which moves pairs: this many.
     Count(usize),
     /// Clear the table.
     Clear,
-    /// Raise the least capacity.
+    /// Raise the minimum.
     RaiseMinimum(usize),
-    /// Keep the pairs of keys from a number on, and remove so many others.
+    /// Keep the pairs of keys from a number on, and remove the others: this many.
     Sweep(u64, usize),
-    /// Remove two keys in a walk, which are present, and ask for a shorter array.
+    /// Remove two present keys in a walk, and ask for a shorter array.
     RemoveInWalk(u64, u64),
     /// Follow a cursor: it visits these pairs from the first one on, and then ends.
     FollowCursor(&'static [Stop]),
@@ -53,15 +53,15 @@ pub(crate) enum Step {
 
 /// A call that locks a bucket.
 pub(crate) enum Lock {
-    /// Insert a new key in the writer's bucket of this index. It is in this place then.
+    /// Insert a new key in the writer's bucket of this index. It is then in this place.
     Insert(u64, usize, Spot),
-    /// Remove a key from its bucket alone, which leaves the pointer there.
+    /// Remove a key by a call on its locked bucket, which leaves the pointer in this place.
     Remove(u64, Spot),
     /// Find a key in this place.
     FindPlace(u64, Spot),
     /// Find the writer's bucket of a hash, which has this index.
     FindBucket(u64, usize),
-    /// The same by the other name of the call.
+    /// The same by the call's other name.
     FindReserved(u64, usize),
     /// Find the index of a key's bucket, and how many pairs it has; nothing if there is an old
     /// array.
@@ -70,7 +70,7 @@ pub(crate) enum Lock {
 
 /// A call on the arrays, or on tickets.
 pub(crate) enum Rehash {
-    /// Get the present array, or make one: it has so many buckets.
+    /// Get the present array, or make one: it has this many buckets.
     MakeArray(usize),
     /// Ask for a resize: whether it happens.
     TryResize(bool),
@@ -84,7 +84,7 @@ pub(crate) enum Rehash {
     EndTicket(usize),
     /// End a ticket that isn't open, which fails.
     EndUnknownTicket(usize),
-    /// Finish the rehash, while no ticket is open: so many units are left.
+    /// Finish the rehash, while no ticket is open: this many units are left.
     Finish(usize),
 }
 
@@ -92,9 +92,9 @@ pub(crate) enum Rehash {
 pub(crate) enum Expect {
     /// How many slots the current array has, and the rehash word.
     Slots(usize, Option<usize>),
-    /// A key has itself as its value, as a peek has it, which moves nothing.
+    /// A key has itself as its value, according to a peek, which moves nothing.
     Key(u64),
-    /// How many pairs there are, as a length has it, which moves nothing.
+    /// How many pairs there are, according to the length, which moves nothing.
     Len(usize),
     /// The keys that `for_each` visits, in its order, each with itself as its value.
     Each(&'static [u64]),
@@ -111,7 +111,7 @@ pub(crate) fn tell(rt: &impl Abort, alloc: Global, stories: &[Story]) -> Result<
     Ok(())
 }
 
-/// A map with no pair, whose greatest capacity is 2^63 slots.
+/// A map with no pair and a maximum of 2^63 slots.
 pub(crate) fn new_map(alloc: Global, hasher: ScriptHash, minimum: usize) -> Map
     requires { minimum ≤ 4096 }
 {
@@ -131,7 +131,7 @@ pub(crate) fn play(
     Ok(())
 }
 
-// Takes a step, and compares its result.
+// Takes a step, and checks its result.
 fn take(rt: &impl Abort, table: &mut Map, at: At, step: &Step) -> Result<(), Fail> {
     match step {
         Step::InsertRange(keys) => insert_range(rt, table, at, keys),
@@ -176,7 +176,7 @@ fn remove_range(rt: &impl Abort, table: &mut Map, at: At, keys: &Range<u64>) {
     }
 }
 
-// Makes a call that locks a bucket, and compares its result.
+// Makes a call that locks a bucket, and checks its result.
 fn check_lock(rt: &impl Abort, table: &mut Map, at: At, call: &Lock) {
     match *call {
         Lock::Insert(key, index, spot) => {
@@ -192,7 +192,7 @@ fn check_lock(rt: &impl Abort, table: &mut Map, at: At, call: &Lock) {
     }
 }
 
-// Makes a call on the arrays or on tickets, and compares its result.
+// Makes a call on the arrays or on tickets, and checks its result.
 fn check_rehash(rt: &impl Abort, table: &mut Map, at: At, call: &Rehash) -> Result<(), Fail> {
     match call {
         Rehash::MakeArray(len) => check_same(rt, table.get_or_create_array()?.len(), *len, at),
@@ -228,7 +228,7 @@ fn relocate_range(table: &mut Map, indexes: &Range<usize>) -> Result<(), Fail> {
     Ok(())
 }
 
-// Compares what is seen of the table.
+// Checks an expectation about the table.
 fn check_expected(rt: &impl Abort, table: &Map, at: At, wanted: &Expect) {
     match wanted {
         Expect::Slots(slots, word) => check_slots(rt, table, at, *slots, *word),
@@ -241,13 +241,13 @@ fn check_expected(rt: &impl Abort, table: &Map, at: At, wanted: &Expect) {
     }
 }
 
-/// The current array has so many slots, and the rehash word is this one.
+/// Checks how many slots the current array has, and the rehash word.
 pub(crate) fn check_slots(rt: &impl Abort, table: &Map, at: At, slots: usize, word: Option<usize>) {
     let found = (table.num_slots(), table.rehashing_metadata());
     check_same(rt, found, (slots, word), at);
 }
 
-// The pairs that `for_each` visits are these keys, each with itself as its value, in this order.
+// Checks that `for_each` visits these keys, each with itself as its value, in this order.
 fn check_each(rt: &impl Abort, table: &Map, at: At, keys: &[u64]) {
     let mut came: usize = 0;
     let mut in_order = true;

@@ -1,4 +1,4 @@
-//! A caller of the table: takes out the pair of a key.
+//! A caller of the table that removes the pair of a key.
 ghost use Rattle.std.specs.Prelude.{◌≡◌, ◌≢◌};
 ghost use Rattle.bucket_table.specs.Map.MapState.{state_of};
 ghost use Rattle.test_layers.specs.Taking.{TakesKey};

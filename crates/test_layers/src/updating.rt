@@ -1,5 +1,5 @@
-//! Values that are replaced, pairs that are inserted where the key is absent, and pairs that a
-//! cache evicts.
+//! Values that are replaced, pairs that are inserted if the key is absent, and pairs that a cache
+//! evicts.
 use crate::by_lock::Table;
 use crate::checks::check_same;
 use Expect::*;
@@ -15,7 +15,7 @@ use test_helpers::{At, overwrite};
 
 type Cache = Table<DoublyLinkedList, CACHE>;
 
-/// A call on a cache, with its result, or what is seen of it.
+/// A call on a cache with its expected result, or an expectation.
 enum Step {
     /// Insert new keys, each with itself as its value.
     InsertRange(Range<u64>),
@@ -46,7 +46,7 @@ enum Expect {
     Count(usize),
 }
 
-// What happens, how keys are hashed, and the calls on a new cache.
+// A name, how keys are hashed, and the calls on a new cache.
 const STORIES: [(&str, ScriptHash, &[Step]); 5] = [
     (
         "a pair is put once, and then its value is written",
@@ -157,7 +157,7 @@ fn caches_are_updated_by_key(rt: HostRuntime) -> Result<(), Fail> {
     Ok(())
 }
 
-// Takes a step, and compares its result.
+// Takes a step, and checks its result.
 fn take(rt: &impl Abort, cache: &mut Cache, at: At, step: &Step) -> Result<(), Fail> {
     match step {
         InsertRange(keys) => insert_range(rt, cache, at, keys),
@@ -190,7 +190,7 @@ fn insert_range(rt: &impl Abort, cache: &mut Cache, at: At, keys: &Range<u64>) {
     }
 }
 
-// Compares what is seen of a cache.
+// Checks an expectation about a cache.
 fn check_expected(rt: &impl Abort, cache: &mut Cache, at: At, wanted: &Expect) {
     match wanted {
         Value(key, value) => {

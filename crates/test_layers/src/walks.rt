@@ -56,7 +56,7 @@ fn a_walk_that_is_stopped_has_seen_one_bucket(rt: HostRuntime) -> Result<(), Fai
     Ok(())
 }
 
-/// Finishes a rehash, where no ticket is open, and returns how many units were left.
+/// Finishes a rehash if no ticket is open, and returns how many units were left.
 pub(crate) fn finish(table: &mut Map) -> Result<Option<usize>, AllocError> {
     if has_open_ticket(table) {
         return Ok(None);
@@ -67,7 +67,7 @@ pub(crate) fn finish(table: &mut Map) -> Result<Option<usize>, AllocError> {
     }
 }
 
-// Whether a ticket is open, as the rehash word tells.
+// Whether a ticket is open, according to the rehash word.
 fn has_open_ticket(table: &Map) -> bool
     ensures { result ≡ false → IsUnopened table.now.arrays }
 {
@@ -119,7 +119,7 @@ const STORIES: &[Story] = steps! {
         minimum: 0, start: steps! { InsertRange(1..4) }, steps: steps! {
             RemoveInWalk(2, 3), Expect(Slots(64, None)),
             FollowCursor(&[Stop { keys: 1..2, bucket: (0, 64), takes: false }]) } },
-    // Once 0 to 31 are gone, the table shrinks, and the next bucket is the second of two.
+    // Once 0 to 31 are removed, the table shrinks, and the next bucket is the second of two.
     Story { name: "a cursor goes on over the shrink that it brings", hasher: ScriptHash::Spread,
         minimum: 0, start: SEVEN_BEHIND, steps: steps! {
             FollowCursor(&[
@@ -136,7 +136,7 @@ const STORIES: &[Story] = steps! {
             Expect(Slots(8192, None)), Expect(Each(&[5, 200, 250])), Expect(Len(3)) } },
     Story { name: "a length counts the old array alone", hasher: ScriptHash::Spread, minimum: 0,
         start: DOUBLED, steps: steps! { Expect(Len(63)), Expect(Slots(128, Some(0))) } },
-    // The next array has the minimum's length, which was raised.
+    // The next array has the length of the raised minimum.
     Story { name: "a cleared table forgets its arrays and tickets", hasher: ScriptHash::Spread,
         minimum: 4096, start: ONE_UNIT_LEFT, steps: steps! {
             Rehash(IssueTicket(2048)), Expect(Slots(8192, Some(4097))), Clear,

@@ -17,7 +17,7 @@ enum Step {
     ExpectNumber(&'static str, Option<u64>),
     /// Remove a word with its number, if it was present.
     Take(&'static str, Option<(&'static str, u64)>),
-    /// Expect so many words.
+    /// Expect this many words.
     ExpectLen(usize),
     /// Remove all words.
     Clear,
@@ -56,7 +56,7 @@ fn words_are_found_by_stds_hashes(rt: HostRuntime) -> Result<(), Fail> {
     Ok(())
 }
 
-// Takes a step, and compares its result.
+// Takes a step, and checks its result.
 fn play(rt: &impl Abort, words: &mut Words, row: usize, step: &Step) {
     match *step {
         Step::Put(word, number, done) => {

@@ -1,4 +1,4 @@
-//! The own slots of a bucket in order of use.
+//! The own slots of a bucket in LRU order.
 ghost use Rattle.std.specs.Prelude.{◌≡◌};
 ghost use Rattle.bucket_slots.specs.ByUse.{slots_by_use};
 ghost use Rattle.bucket_slots.specs.Places.{pair_lent};
@@ -30,8 +30,8 @@ impl<K, V, L: LruList, const TYPE: u8> Bucket<K, V, L, TYPE> {
 }
 
 impl<K, V, const TYPE: u8> Bucket<K, V, DoublyLinkedList, TYPE> {
-    /// Returns the own slots in order of use: the listed ones, newest first, then the others in
-    /// slot order.
+    /// Returns the own slots in LRU order: the listed ones, newest first, then the others in slot
+    /// order.
     ///
     /// Changes and allocates nothing. O(1), since the number of own slots is fixed.
     pub fn slots_by_use(&self) -> [u8; BUCKET_LEN]

@@ -1,4 +1,4 @@
-//! An iterator over the pairs of a cache's arrays, bucket by bucket, those of each in order of use.
+//! An iterator over the pairs of a cache's arrays, bucket by bucket, those of each in LRU order.
 //!
 //! The own slots of a bucket come first, starting with the one touched last, and then its chain.
 ghost use Rattle.std.specs.Prelude.{◌≡◌, ◌∷◌, MatchOption, drop};
@@ -15,7 +15,7 @@ use bucket_slots::lru::DoublyLinkedList;
 use std::iter::FusedIterator;
 use std::marker::Model;
 
-/// The remaining pairs of a bucket: those of its own slots in order of use, from an index on, then
+/// The remaining pairs of a bucket: those of its own slots in LRU order, from an index on, then
 /// those past a place.
 #[derive(Drop)]
 pub struct BucketByUse<'a, K, V> {

@@ -177,7 +177,6 @@ impl<K: Eq, V, H: KeyHash<K>, L: LruList, const TYPE: u8> HashTable<K, V, H, L, 
     }
 
     /// States that the current array has no more slots than the maximum; does nothing at run time.
-    /// Own.
     pub fn bounded(&self)
         ensures { 32 * length self.now.arrays.current ≤ self.now.arrays.maximum }
     {

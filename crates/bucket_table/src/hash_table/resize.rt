@@ -151,7 +151,7 @@ impl<K: Eq + Drop, V: Drop, H: KeyHash<K>, L: LruList + Drop, const TYPE: u8> Ha
     /// Allocation failed: no pair is lost, the pairs are in one array or two, and the two
     /// capacities are unchanged.
     ///
-    /// O(slots of all arrays, and their pairs). Own.
+    /// O(slots of all arrays, and their pairs).
     pub fn rehash_to(&mut self, capacity: usize) -> Result<(), AllocError>
         requires within { capacity ≤ self.old.arrays.maximum }
         ensures map { KeepsPairs (state_of TYPE self.old) (state_of TYPE self.new) }

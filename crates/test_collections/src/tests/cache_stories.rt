@@ -68,7 +68,7 @@ const STORIES: &[Story] = steps! {
             PutPresent(31, 1), Expect(Len(63)), PutRange(159..160), Put(160, 1, Some((129, 129))),
             Remove(31, Some((31, 31))), Expect(Value(30, Some(30))), Expect(Value(128, Some(128))),
             Expect(Slots(128)), Expect(Len(63)) } },
-    // A cache has its size from the first pair on: the least power of two from 64 on.
+    // A cache has its size from the first pair on: the least sufficient power of two, at least 64.
     Story { name: "no slots are 64", hasher: ScriptHash::Spread, made: Sized(0), steps: steps! {
         Expect(Slots(0)), Put(1, 1, None), Expect(Slots(64)), Remove(1, Some((1, 1))),
         Expect(Slots(64)) } },

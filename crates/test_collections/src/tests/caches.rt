@@ -1,5 +1,5 @@
 //! The steps of stories of a cache of numbers: which pair is evicted for another, which calls touch
-//! a pair, and what is seen of the cache then.
+//! a pair, and the cache's state then.
 use super::iterating::{MOST_BUCKETS, Pairs, gone_over, same_pairs, walk_numbers, walk_pairs};
 use super::{check_same, pair_with};
 use Expect::*;
@@ -16,7 +16,7 @@ use test_helpers::{At, overwrite};
 
 pub(super) type Cache = HashCache<u64, u64, ScriptHash>;
 
-/// A call on a cache with its result, or what is seen of the cache.
+/// A call on a cache with its expected result, or an expectation.
 pub(super) enum Step {
     /// Put keys, each as its own value. None is evicted.
     PutRange(Range<u64>),
@@ -52,7 +52,7 @@ pub(super) enum Step {
     RemoveIfAbove(u64, u64, Option<(u64, u64)>),
     /// Remove all pairs.
     Clear,
-    /// Resize the cache to so many slots.
+    /// Resize the cache to this many slots.
     Resize(usize),
     Expect(Expect),
 }
@@ -83,9 +83,9 @@ pub(super) enum Expect {
 
 /// How a new cache is made.
 pub(super) enum Made {
-    /// With at least and at most so many slots.
+    /// With at least and at most this many slots.
     Within(usize, usize),
-    /// With so many slots, or as few more as can be.
+    /// With this many slots, or the least possible number above it.
     Sized(usize),
 }
 
@@ -116,7 +116,7 @@ fn new_cache(alloc: Global, story: &Story) -> Cache {
     }
 }
 
-// Takes a step, and compares its result.
+// Takes a step, and checks its result.
 fn take(rt: &impl Abort, cache: &mut Cache, at: At, step: &Step) {
     match step {
         PutRange(keys) => check_same(rt, put_range(cache, keys), true, at),
@@ -153,7 +153,7 @@ fn take(rt: &impl Abort, cache: &mut Cache, at: At, step: &Step) {
     }
 }
 
-// Makes a call that writes values, and compares its result.
+// Makes a call that writes values, and checks its result.
 fn check_write(rt: &impl Abort, cache: &mut Cache, at: At, call: &Write) {
     match *call {
         ByUpdate(key, value, pair) => check_same(rt, update(cache, key, value), pair, at),
@@ -167,7 +167,7 @@ fn check_write(rt: &impl Abort, cache: &mut Cache, at: At, call: &Write) {
     }
 }
 
-// Compares what is seen of a cache.
+// Checks an expectation about a cache.
 fn check_expected(rt: &impl Abort, cache: &Cache, at: At, wanted: &Expect) {
     match *wanted {
         Value(key, value) => {
@@ -200,7 +200,7 @@ pub(super) fn put(cache: &mut Cache, key: u64, value: u64) -> Outcome {
     }
 }
 
-// Puts keys, each as its own value. Whether none is evicted.
+// Puts keys, each as its own value. Returns whether none is evicted.
 pub(super) fn put_range(cache: &mut Cache, keys: &Range<u64>) -> bool {
     let mut are_in = true;
     for key in keys.start..keys.end {
@@ -209,8 +209,8 @@ pub(super) fn put_range(cache: &mut Cache, keys: &Range<u64>) -> bool {
     are_in
 }
 
-// Puts keys, each as its own value. Whether for each a key with its own value is evicted, from a
-// first one on.
+// Puts keys, each as its own value. Returns whether for each a key with its own value is evicted,
+// from a first one on.
 fn put_range_evicting(cache: &mut Cache, keys: &Range<u64>, first: u64) -> bool {
     let mut are_gone = true;
     for key in keys.start..keys.end {
@@ -229,7 +229,7 @@ fn upsert(cache: &mut Cache, key: u64, value: u64) -> Outcome {
     }
 }
 
-// Upserts keys, each as its own value. Whether each is added, and none is evicted.
+// Upserts keys, each as its own value. Returns whether each is added, and none is evicted.
 fn upsert_range(cache: &mut Cache, keys: &Range<u64>) -> bool {
     let mut are_in = true;
     for key in keys.start..keys.end {
@@ -249,7 +249,7 @@ fn own(value: &u64) -> u64 {
     *value
 }
 
-// Gets keys. Whether each has itself as its value.
+// Gets keys. Returns whether each has itself as its value.
 fn get_range(cache: &mut Cache, keys: &Range<u64>) -> bool {
     let mut are_found = true;
     for key in keys.start..keys.end {
@@ -276,7 +276,7 @@ fn pair(cache: &Cache, key: u64) -> Option<(u64, u64)> {
     }
 }
 
-// Adds 100 to a value. Whether the key is even.
+// Adds 100 to a value. Returns whether the key is even.
 fn keep_even(key: &u64, value: &mut u64) -> bool {
     *value = value.wrapping_add(100);
     *key % 2 == 0

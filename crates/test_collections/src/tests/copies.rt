@@ -25,7 +25,7 @@ fn a_change_of_a_set_leaves_its_copy(rt: HostRuntime) -> Result<(), Fail> {
     Ok(())
 }
 
-// A set and its copy are changed apart.
+// A set and its copy are changed independently.
 fn change_both(rt: &impl Abort, set: &mut Set, copy: &mut Set) {
     check_same(rt, (*set == *copy, copy.len()), (true, 100), "copied");
     let went = (set.take(&7), copy.take(&8));
@@ -56,7 +56,7 @@ fn fill_index(rt: &impl Abort, index: &mut Index) {
     }
 }
 
-// An index and its copy are changed apart.
+// An index and its copy are changed independently.
 fn change_index(rt: &impl Abort, index: &mut Index, copy: &mut Index) {
     check_same(rt, (copy.len(), copy.capacity()), (40, 128), "copied");
     let went = (index.remove(&7), copy.remove(&8));

@@ -179,7 +179,7 @@ fn put_clone(map: &mut Counted, counted: &Rc<u64>, key: u64) {
     }
 }
 
-// Takes so many pairs from a drain, and drops it, and then them.
+// Takes this many pairs from a drain, and drops the drain and then the pairs.
 fn hand_out(
     rt: &impl Abort,
     alloc: Global,
@@ -197,7 +197,7 @@ fn hand_out(
     drop(held);
 }
 
-// The first pairs of a drain, so many.
+// The first pairs of a drain, this many.
 fn first_of(
     alloc: Global,
     left: &mut Drain<u64, Rc<u64>>,

@@ -12,7 +12,7 @@ use std::process::Abort;
 use std::test::Fail;
 use test_helpers::{At, steps};
 
-/// What is done at a key's place, or what is seen of the map.
+/// A call on a key's entry with its expected result, or an expectation.
 pub(super) enum Step {
     /// Insert keys by vacant entries, each as its own value.
     InsertRange(Range<u64>),
@@ -31,7 +31,7 @@ pub(super) enum Step {
 
 /// What is expected of a map.
 pub(super) enum Expect {
-    /// The key of its place, vacant or occupied.
+    /// The key that its entry returns, vacant or occupied.
     Key(u64),
     /// The value that a key has.
     Value(u64, Option<u64>),
@@ -92,7 +92,7 @@ fn play(rt: &impl Abort, alloc: Global, stories: &[Story]) {
     }
 }
 
-// Takes a step, and compares its result.
+// Takes a step, and checks its result.
 fn take(rt: &impl Abort, map: &mut Map, at: At, step: &Step) {
     match step {
         InsertRange(keys) => check_same(rt, insert_range(map, keys), true, at),
@@ -109,7 +109,7 @@ fn take(rt: &impl Abort, map: &mut Map, at: At, step: &Step) {
     }
 }
 
-// Compares what is seen of a map.
+// Checks an expectation about a map.
 fn check_expected(rt: &impl Abort, map: &mut Map, at: At, wanted: &Expect) {
     match *wanted {
         Key(key) => check_same(rt, *map.entry(key).key(), key, at),
@@ -118,7 +118,8 @@ fn check_expected(rt: &impl Abort, map: &mut Map, at: At, wanted: &Expect) {
     }
 }
 
-// Inserts keys, each as its own value. Whether the place of each was vacant, and it was inserted.
+// Inserts keys, each as its own value. Returns whether the place of each was vacant, and it was
+// inserted.
 fn insert_range(map: &mut Map, keys: &Range<u64>) -> bool {
     let mut are_in = true;
     for key in keys.start..keys.end {

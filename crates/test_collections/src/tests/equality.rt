@@ -86,7 +86,7 @@ fn check_sets(rt: &impl Abort, alloc: Global, row: &Row, number: usize) {
     check_equal(rt, &one, &other, row.3, ("sets", number));
 }
 
-// Both ways two values are equal, or aren't, and each is equal to itself.
+// Checks both ways whether two values are equal, and that each is equal to itself.
 pub(super) fn check_equal<T: Eq, R: Debug + Drop>(
     rt: &impl Abort,
     one: &T,

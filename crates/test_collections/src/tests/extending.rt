@@ -13,7 +13,7 @@ use std::process::Abort;
 use std::test::Fail;
 use test_helpers::{At, steps};
 
-/// What is inserted into a map and a set, or what they have then.
+/// An insertion into a map and a set, or an expectation.
 enum Step {
     /// Insert these pairs.
     ExtendBy(&'static [(u64, u64)]),
@@ -21,7 +21,7 @@ enum Step {
     ExtendByRange(Range<u64>),
     /// Expect a key to have this value.
     ExpectValue(u64, Option<u64>),
-    /// Expect so many pairs and slots.
+    /// Expect this many pairs and slots.
     ExpectCounts(usize, usize),
 }
 
@@ -70,7 +70,7 @@ fn play(rt: &impl Abort, alloc: Global, steps: &[Step]) {
     }
 }
 
-// Takes a step, and compares its result.
+// Takes a step, and checks its result.
 fn take(rt: &impl Abort, map: &mut Map, set: &mut Set, at: At, step: &Step) {
     match step {
         ExtendBy(pairs) => check_same(rt, extend_by(map, set, pairs), (true, true), at),
@@ -88,7 +88,7 @@ fn take(rt: &impl Abort, map: &mut Map, set: &mut Set, at: At, step: &Step) {
     }
 }
 
-// Inserts pairs into a map, and their keys into a set. Whether all were inserted.
+// Inserts pairs into a map, and their keys into a set. Returns whether all were inserted.
 fn extend_by(map: &mut Map, set: &mut Set, pairs: &[(u64, u64)]) -> (bool, bool) {
     let mut keys = pairs.iter().map(key_of);
     let is_in = map.try_extend(&mut pairs.iter().copied()).is_ok();
@@ -99,7 +99,8 @@ fn key_of(pair: &(u64, u64)) -> u64 {
     pair.0
 }
 
-// Inserts keys into a map, each as its own value, and into a set. Whether all were inserted.
+// Inserts keys into a map, each as its own value, and into a set. Returns whether all were
+// inserted.
 fn extend_by_range(map: &mut Map, set: &mut Set, keys: &Range<u64>) -> (bool, bool) {
     let (from, to) = (keys.start, keys.end);
     let is_in = map.try_extend(&mut (from..to).zip(from..to)).is_ok();

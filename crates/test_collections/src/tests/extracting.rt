@@ -11,8 +11,8 @@ use std::process::Abort;
 use std::test::Fail;
 use test_helpers::steps;
 
-/// The keys of a collection, each its own value; those are picked that leave the second number,
-/// divided by the first.
+/// The keys of a collection, each its own value; the function picks those that leave the second
+/// number as their remainder when divided by the first.
 struct Row {
     name: &'static str,
     hasher: ScriptHash,
@@ -107,13 +107,13 @@ fn what_is_not_asked_for_stays_as_it_was(rt: HostRuntime) -> Result<(), Fail> {
     Ok(())
 }
 
-// Whether a number leaves a rest.
+// Whether a number leaves a remainder.
 fn leaves(key: u64, by: u64, rest: u64) -> bool {
     by != 0 && key % by == rest
 }
 
-// Adds 1000 to each value that is reached, and removes at most so many pairs, whose keys leave a
-// rest. Returns their keys; a pair whose value isn't 1000 more yields both.
+// Adds 1000 to each value that is reached, and removes at most this many pairs, whose keys leave a
+// remainder. Returns their keys; a pair whose value isn't 1000 more yields both.
 fn taken(alloc: Global, map: &mut Map, picks: (u64, u64), at_most: usize) -> Vec<u64> {
     let mut gone = Vec::new(alloc);
     let (by, rest) = picks;

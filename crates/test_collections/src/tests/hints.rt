@@ -1,5 +1,5 @@
-//! How many items an iterator says that it has left: at the start, after a step, and at its end.
-//! And the room that an extension makes by what its iterator says.
+//! How many items an iterator reports to be left: at the start, after a step, and at its end. And
+//! the room that an extension makes by its iterator's hint.
 use super::check_same;
 use super::maps::map_of;
 use super::two_sets::{Ranges, set_of};
@@ -35,7 +35,7 @@ const ROWS: &[Row] = steps! {
     Row { name: "a chain", hasher: ScriptHash::Zero, keys: &[0..100], len: 100 }
 };
 
-// What an iterator says.
+// The hints of an iterator.
 macro_rules! hints {
     ($left:expr) => {{
         let mut left = $left;
@@ -47,17 +47,17 @@ macro_rules! hints {
     }};
 }
 
-// Just so many.
+// The hint of exactly this many items.
 fn exactly(items: usize) -> Hint {
     (items, Some(items))
 }
 
-// What an iterator over so many items says that counts them.
+// The hints of an iterator that counts its items, of which there are this many.
 fn counted(items: usize) -> Hints {
     (exactly(items), exactly(items.saturating_sub(1)), exactly(0))
 }
 
-// What an iterator says that tries so many items, of which it returns some, or all.
+// The hints of an iterator that tries this many items, and returns some of them, or all.
 fn tried(items: usize, are_all_returned: bool) -> Hints {
     let left = if are_all_returned {
         items.saturating_sub(1)
@@ -176,8 +176,8 @@ fn iterators_over_two_sets_bound_what_is_left(rt: HostRuntime) -> Result<(), Fai
     Ok(())
 }
 
-// How many pairs come to an empty map and to an empty set, and how many slots these have then: so
-// many pairs take no more than 13 of 16 slots.
+// How many pairs come to an empty map and to an empty set, and how many slots these have then: the
+// pairs take no more than 13 of 16 slots.
 const INTO_EMPTY: [(usize, usize); 4] = [(0, 0), (52, 64), (53, 128), (104, 128)];
 
 #[test]
@@ -202,8 +202,8 @@ fn a_collection_makes_room_for_half_of_what_comes(rt: HostRuntime) -> Result<(),
     Ok(())
 }
 
-// Extends a map and a set with so many keys by one of them, so many times. How many slots they have
-// then.
+// Extends a map and a set with this many keys by one of them, this many times. Returns how many
+// slots they have then.
 fn extend_by_one(alloc: Global, keys: u64, coming: usize) -> Result<(usize, usize), AllocError> {
     let mut map = HashMap::with_capacity(alloc, keys as usize);
     let mut set = HashSet::with_capacity(alloc, keys as usize);

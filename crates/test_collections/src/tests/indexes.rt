@@ -15,7 +15,7 @@ use test_helpers::{At, steps};
 
 pub(super) type Index = HashIndex<u64, u64, ScriptHash>;
 
-/// A call on an index with its result, or what is seen of the index.
+/// A call on an index with its expected result, or an expectation.
 enum Step {
     /// Insert keys, each as its own value.
     InsertRange(Range<u64>),
@@ -65,11 +65,11 @@ struct Story {
     steps: &'static [Step],
 }
 
-// The greatest number of slots. Allocating so many fails.
+// The maximum number of slots. Allocating this many fails.
 const MOST: usize = 1 << 63;
 
-// Of two buckets the first has the keys below 128, under the hash that spreads low bytes. The table
-// grows as the first one is full, and key 255 is always in the last bucket.
+// Under the hash that spreads low bytes, the first of two buckets has the keys below 128. The table
+// grows when that bucket is full, and key 255 is always in the last bucket.
 const STORIES: &[Story] = steps! {
     Story { name: "an insertion gives the pair back where the key is there",
         hasher: ScriptHash::Id, capacity: 0, steps: steps! {
@@ -165,7 +165,7 @@ fn play(rt: &impl Abort, alloc: Global, story: &Story) {
     }
 }
 
-// Takes a step, and compares its result.
+// Takes a step, and checks its result.
 fn take(rt: &impl Abort, index: &mut Index, at: At, step: &Step) {
     match step {
         InsertRange(keys) => check_same(rt, insert_range(index, keys), true, at),
@@ -197,7 +197,7 @@ fn insert(index: &mut Index, key: u64, value: u64) -> Result<(), Option<(u64, u6
     }
 }
 
-// Inserts keys, each as its own value. Whether all were inserted.
+// Inserts keys, each as its own value. Returns whether all were inserted.
 fn insert_range(index: &mut Index, keys: &Range<u64>) -> bool {
     let mut are_in = true;
     for key in keys.start..keys.end {
@@ -206,12 +206,12 @@ fn insert_range(index: &mut Index, keys: &Range<u64>) -> bool {
     are_in
 }
 
-// Removes a pair whose value is above a number. Whether there was one.
+// Removes a pair whose value is above a number. Returns whether there was one.
 fn remove_above(index: &mut Index, key: u64, floor: u64) -> bool {
     index.remove_if(&key, |_own: &u64, value: &u64| *value > floor)
 }
 
-// Removes keys. Whether each was present.
+// Removes keys. Returns whether each was present.
 fn remove_range(index: &mut Index, keys: &Range<u64>) -> bool {
     let mut were_there = true;
     for key in keys.start..keys.end {
@@ -228,7 +228,7 @@ fn pair_of(own: &u64, value: &u64) -> (u64, u64) {
     (*own, *value)
 }
 
-// Makes a call that sets the minimum, and compares its result.
+// Makes a call that sets the minimum, and checks its result.
 fn check_resize(rt: &impl Abort, index: &mut Index, at: At, call: &Resize) {
     match *call {
         RaiseMinimum(by, raised) => check_same(rt, index.raise_minimum(by), raised, at),
@@ -236,7 +236,7 @@ fn check_resize(rt: &impl Abort, index: &mut Index, at: At, call: &Resize) {
     }
 }
 
-// Compares what is seen of an index.
+// Checks an expectation about an index.
 fn check_expected(rt: &impl Abort, index: &Index, at: At, wanted: &Expect) {
     match *wanted {
         Value(key, value) => {

@@ -62,7 +62,7 @@ impl Pairs {
         self.values.add(value);
     }
 
-    // The pair after so many.
+    // The pair after this many.
     pub(super) fn get(&self, place: usize) -> Option<(u64, u64)> {
         match (self.keys.numbers.get(place), self.values.numbers.get(place)) {
             (Some(key), Some(value)) => Some((*key, *value)),
@@ -74,7 +74,7 @@ impl Pairs {
         self.keys.len
     }
 
-    // Whether another walk gave the same in the same order.
+    // Whether another iterator yielded the same in the same order.
     pub(super) fn is_as(&self, other: &Pairs) -> bool {
         self.keys.is_as(&other.keys) && self.values.is_as(&other.values)
     }
@@ -125,7 +125,7 @@ pub(super) fn same_pairs(met: &Pairs, pairs: &Pairs, keys: &Walk, values: &Walk)
     }
 }
 
-/// More buckets than a collection has whose pairs are gone over.
+/// More buckets than any collection has whose pairs `gone_over` counts.
 pub(super) const MOST_BUCKETS: usize = 10_000;
 
 // How many pairs a collection yields: keys below 256, each once and with the value that a look-up

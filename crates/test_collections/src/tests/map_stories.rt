@@ -10,11 +10,11 @@ use collections::hash_map::HashMap;
 use std::test::Fail;
 use test_helpers::steps;
 
-// The greatest number of slots. Allocating so many fails.
+// The maximum number of slots. Allocating this many fails.
 const MOST: usize = 1 << 63;
 
-// Of two buckets the first has the keys below 128, under the hash that spreads low bytes. The table
-// grows as the first one is full, and key 255 is always in the last bucket.
+// Under the hash that spreads low bytes, the first of two buckets has the keys below 128. The table
+// grows when that bucket is full, and key 255 is always in the last bucket.
 const STORIES: &[Story] = steps! {
     Story { name: "an insertion gives the pair back where the key is there",
         hasher: ScriptHash::Id, minimum: 0, steps: steps! {
@@ -134,7 +134,7 @@ const STORIES: &[Story] = steps! {
             Resize(RaiseMinimum(1, 0)), Resize(RaiseMinimum(0, 0)), InsertWithoutMemory(1, 10),
             Expect(Len(0)), Resize(ShrinkToFit), Resize(RaiseMinimum(1, 1)), Insert(1, 10),
             Expect(Slots(64)) } },
-    // An array that stands stays, and takes pairs.
+    // The present array stays, and takes pairs.
     Story { name: "a minimum is raised where there is no memory for it", hasher: ScriptHash::Id,
         minimum: 0, steps: steps! {
             Insert(1, 10), Resize(RaiseMinimum(MOST, MOST)), Expect(Slots(64)), Insert(2, 20),
@@ -158,8 +158,8 @@ const STORIES: &[Story] = steps! {
             Expect(Len(1)) } }
 };
 
-// So many pairs, and how many slots the first array has for them: of half as many they take more
-// than 13 of 16. Of 2,048 slots these are 1,664.
+// Numbers of pairs, and how many slots the first array has for them: the pairs are more than 13/16
+// of half as many slots. 13/16 of 2,048 slots are 1,664.
 const CAPACITIES: [(usize, usize); 7] = [
     (0, 64),
     (1, 64),

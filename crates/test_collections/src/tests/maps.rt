@@ -16,7 +16,7 @@ use test_helpers::{At, overwrite};
 
 pub(super) type Map = HashMap<u64, u64, ScriptHash>;
 
-/// A call on a map with its result, or what is seen of the map.
+/// A call on a map with its expected result, or an expectation.
 pub(super) enum Step {
     /// Insert keys, each as its own value.
     InsertRange(Range<u64>),
@@ -31,8 +31,8 @@ pub(super) enum Step {
     /// Insert a value or write it: this was the earlier one.
     Upsert(u64, u64, Option<u64>),
     Write(Write),
-    /// Add one to each value, and retain the pairs whose keys leave the second number, divided by
-    /// the first. The function is called with so many pairs.
+    /// Add one to each value, and retain the pairs whose keys leave the second number as their
+    /// remainder when divided by the first. The function is called with this many pairs.
     RetainAndAddOne(u64, u64, usize),
     /// Retain the same pairs, and write no value.
     Retain(u64, u64, usize),
@@ -42,7 +42,7 @@ pub(super) enum Step {
     RemoveIfAbove(u64, u64, Option<(u64, u64)>),
     /// Remove keys, each with itself as its value.
     RemoveRange(Range<u64>),
-    /// Take so many pairs from a drain, and drop it.
+    /// Take this many pairs from a drain, and drop it.
     DrainPart(usize),
     /// Remove all pairs.
     Clear,
@@ -56,7 +56,7 @@ pub(super) enum Write {
     AddOne(u64, Option<(u64, u64)>),
     /// Write a value through a mutable reference: this was the earlier one.
     ByGetMut(u64, u64, Option<u64>),
-    /// Add one to each value. The function is called so often.
+    /// Add one to each value. The function is called this many times.
     AddOneToAll(usize),
 }
 
@@ -64,9 +64,9 @@ pub(super) enum Write {
 pub(super) enum Resize {
     /// Raise the minimum by the first number: it is raised by the second.
     RaiseMinimum(usize, usize),
-    /// Make room for so many pairs more.
+    /// Make room for this many more pairs.
     Reserve(usize),
-    /// Fail to allocate room for so many pairs more.
+    /// Fail to allocate room for this many more pairs.
     ReserveWithoutMemory(usize),
     /// Set the minimum to 0, and free the slots that the pairs don't take.
     ShrinkToFit,
@@ -90,7 +90,7 @@ pub(super) struct Story {
     pub(super) steps: &'static [Step],
 }
 
-// Inserts keys, each as its own value. Whether all were inserted.
+// Inserts keys, each as its own value. Returns whether all were inserted.
 pub(super) fn fill(map: &mut Map, keys: &Range<u64>) -> bool {
     multiply(map, keys, 1)
 }
@@ -104,7 +104,7 @@ pub(super) fn map_of(alloc: Global, hasher: ScriptHash, ranges: Ranges) -> Map {
     map
 }
 
-// Inserts keys, each with a multiple of it as its value. Whether all were inserted.
+// Inserts keys, each with a multiple of it as its value. Returns whether all were inserted.
 fn multiply(map: &mut Map, keys: &Range<u64>, factor: u64) -> bool {
     let mut are_in = true;
     for key in keys.start..keys.end {
@@ -129,7 +129,7 @@ fn play_one(rt: &impl Abort, map: &mut Map, story: &Story) {
     }
 }
 
-// Takes a step, and compares its result.
+// Takes a step, and checks its result.
 pub(super) fn take(rt: &impl Abort, map: &mut Map, at: At, step: &Step) {
     match step {
         InsertRange(keys) => check_same(rt, fill(map, keys), true, at),
@@ -166,7 +166,7 @@ pub(super) fn take(rt: &impl Abort, map: &mut Map, at: At, step: &Step) {
     }
 }
 
-// Makes a call that writes values, and compares its result.
+// Makes a call that writes values, and checks its result.
 fn check_write(rt: &impl Abort, map: &mut Map, at: At, call: &Write) {
     match *call {
         AddOne(key, pair) => check_same(rt, map.update(&key, add_one), pair, at),
@@ -177,7 +177,7 @@ fn check_write(rt: &impl Abort, map: &mut Map, at: At, call: &Write) {
     }
 }
 
-// Makes a call that sets the minimum or the slots, and compares its result.
+// Makes a call that sets the minimum or the slots, and checks its result.
 fn check_resize(rt: &impl Abort, map: &mut Map, at: At, call: &Resize) {
     match *call {
         RaiseMinimum(by, raised) => check_same(rt, map.raise_minimum(by), raised, at),
@@ -218,8 +218,8 @@ fn add_one(key: &u64, value: &mut u64) -> (u64, u64) {
     (*key, earlier)
 }
 
-// Adds a number to each value, and keeps the keys that leave a rest. Returns how many calls of the
-// function there were.
+// Adds a number to each value, and keeps the keys that leave a remainder. Returns how many calls of
+// the function there were.
 fn retain(map: &mut Map, divisor: u64, rest: u64, more: u64) -> usize {
     let mut asked: usize = 0;
     let mut keep = |key: &u64, value: &mut u64| -> bool {
@@ -247,7 +247,7 @@ fn remove_above(map: &mut Map, key: u64, floor: u64) -> Option<(u64, u64)> {
     map.remove_if(&key, |_own: &u64, value: &u64| *value > floor)
 }
 
-// Removes keys. Whether each was present with its own value.
+// Removes keys. Returns whether each was present with its own value.
 fn remove_range(map: &mut Map, keys: &Range<u64>) -> bool {
     let mut were_there = true;
     for key in keys.start..keys.end {
@@ -256,12 +256,12 @@ fn remove_range(map: &mut Map, keys: &Range<u64>) -> bool {
     were_there
 }
 
-// Takes so many pairs from a drain, and drops it. Returns how many there were.
+// Takes this many pairs from a drain, and drops it. Returns how many there were.
 fn drain_part(map: &mut Map, pairs: usize) -> usize {
     map.drain().take(pairs).count()
 }
 
-// Compares what is seen of a map.
+// Checks an expectation about a map.
 fn check_expected(rt: &impl Abort, map: &Map, at: At, wanted: &Expect) {
     match *wanted {
         Value(key, value) => {

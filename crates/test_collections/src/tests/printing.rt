@@ -1,4 +1,4 @@
-//! How collections are printed, which no clause says: as those of the standard library.
+//! How collections are printed, which no clause states: like those of the standard library.
 use super::check_same;
 use super::maps::Map;
 use super::sets::Set;
@@ -87,7 +87,7 @@ fn a_map_amid_a_growth_is_printed_whole(rt: HostRuntime) -> Result<(), Fail> {
     Ok(())
 }
 
-// Keys are inserted, each with 1000 less the key.
+// Inserts keys, each with 1000 less the key.
 fn fill_to_1000(map: &mut Map, first: u64, last: u64) {
     for key in first..last {
         let _ = map.insert(key, 1000u64.wrapping_sub(key));

@@ -15,7 +15,7 @@ use test_helpers::{At, steps};
 
 pub(super) type Set = HashSet<u64, ScriptHash>;
 
-/// A call on a set with its result, or what is seen of the set.
+/// A call on a set with its expected result, or an expectation.
 pub(super) enum Step {
     /// Insert a key by `insert_new`.
     InsertNew(u64),
@@ -29,7 +29,7 @@ pub(super) enum Step {
     Take(u64, Option<u64>),
     /// Remove a key by `remove`: whether it was present.
     Remove(u64, bool),
-    /// Retain the keys that a number divides. The function is called with so many.
+    /// Retain the keys that a number divides. The function is called with this many.
     RetainMultiples(u64, usize),
     /// Remove all keys.
     Clear,
@@ -41,7 +41,7 @@ pub(super) enum Step {
 pub(super) enum Resize {
     /// Raise the minimum by the first number: it is raised by the second.
     RaiseMinimum(usize, usize),
-    /// Make room for so many keys more: whether that succeeds.
+    /// Make room for this many more keys: whether that succeeds.
     Reserve(usize, bool),
     /// Set the minimum to 0, and free the slots that the keys don't take.
     ShrinkToFit,
@@ -84,7 +84,7 @@ fn a_set_goes_through_its_story(rt: HostRuntime) -> Result<(), Fail> {
     Ok(())
 }
 
-// Inserts keys. Whether all were inserted.
+// Inserts keys. Returns whether all were inserted.
 pub(super) fn fill_set(set: &mut Set, keys: &Range<u64>) -> bool {
     let mut are_in = true;
     for key in keys.start..keys.end {
@@ -102,7 +102,7 @@ fn play(rt: &impl Abort, alloc: Global, steps: &[Step]) {
     }
 }
 
-// Takes a step, and compares its result.
+// Takes a step, and checks its result.
 fn take(rt: &impl Abort, alloc: Global, set: &mut Set, at: At, step: &Step) {
     match step {
         InsertNew(key) => check_same(rt, insert_new(set, *key), Ok(()), at),
@@ -128,12 +128,12 @@ fn insert_new(set: &mut Set, key: u64) -> Result<(), Option<u64>> {
     }
 }
 
-// Inserts keys from an iterator. Whether all were inserted.
+// Inserts keys from an iterator. Returns whether all were inserted.
 fn extend_by(set: &mut Set, keys: &[u64]) -> bool {
     set.try_extend(&mut keys.iter().copied()).is_ok()
 }
 
-// Makes a call that sets the minimum or the slots, and compares its result.
+// Makes a call that sets the minimum or the slots, and checks its result.
 fn check_resize(rt: &impl Abort, set: &mut Set, at: At, call: &Resize) {
     match *call {
         RaiseMinimum(by, raised) => check_same(rt, set.raise_minimum(by), raised, at),
@@ -144,7 +144,7 @@ fn check_resize(rt: &impl Abort, set: &mut Set, at: At, call: &Resize) {
     }
 }
 
-// Compares what is seen of a set.
+// Checks an expectation about a set.
 fn check_expected(rt: &impl Abort, alloc: Global, set: &Set, at: At, wanted: &Expect) {
     match *wanted {
         Contains(key, there) => check_same(rt, set.contains(&key), there, at),

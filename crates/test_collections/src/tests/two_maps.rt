@@ -1,5 +1,5 @@
-//! Stories of two maps of numbers: whether they are equal, where neither the order of insertion nor
-//! the hasher counts; and what a change of one leaves of its copy.
+//! Stories of two maps of numbers: whether they are equal, regardless of the order of insertion and
+//! of the hasher; and that a change of one leaves its copy unchanged.
 use super::check_same;
 use super::equality::check_equal;
 use super::maps::Expect::*;
@@ -16,7 +16,7 @@ use std::process::Abort;
 use std::test::Fail;
 use test_helpers::{At, steps};
 
-/// A step of one map, a call on both, or what is seen of both.
+/// A step of one map, a call on both, or an expectation about both.
 enum Turn {
     /// A step of the first map.
     One(Step),
@@ -105,7 +105,7 @@ fn new_map(alloc: Global, start: Start) -> Map {
     HashMap::with_minimum(alloc, start.0, start.1)
 }
 
-// Takes a turn, and compares its result.
+// Takes a turn, and checks its result.
 fn play(rt: &impl Abort, alloc: Global, one: &mut Map, other: &mut Map, at: At, turn: &Turn) {
     match turn {
         One(step) => take(rt, one, at, step),

@@ -178,7 +178,7 @@ fn called_with(alloc: Global, set: &Set) -> Vec<u64> {
     keys
 }
 
-// The keys that it is called with for one bucket after the other; none where these have no end.
+// The keys that it is called with for one bucket after the other; none if the buckets don't end.
 fn bucket_by_bucket(alloc: Global, set: &Set) -> Option<Vec<u64>> {
     let mut keys = Vec::new(alloc);
     for bucket in 0..MOST_BUCKETS {

@@ -9,7 +9,7 @@ use std::process::Abort;
 use std::rc::RcStr;
 use std::test::Fail;
 
-// A key is put, and its form finds it; another form finds none.
+// Inserts a key, and checks that its form finds it and another form finds none.
 fn check_form<K: Eq + Hash + Drop, Q: KeyForm<K, DefaultHash>>(
     rt: &impl Abort,
     map: &mut HashMap<K, u64>,

@@ -10,7 +10,7 @@ use test_helpers::{At, steps};
 
 type Cache = HashCache<u64, Rc<u64>, ScriptHash>;
 
-/// A call on a cache, all of whose values are clones of one, or what is seen of it.
+/// A call on a cache, all of whose values are clones of one, or an expectation.
 enum Step {
     /// Insert a clone under each key below a number. Each adds a pair and a clone, up to 32 of
     /// each.
@@ -23,7 +23,7 @@ enum Step {
     RetainBelow16,
     /// Remove all pairs.
     Clear,
-    /// Expect so many pairs, and as many clones.
+    /// Expect this many pairs, and as many clones.
     ExpectPairs(usize),
 }
 
@@ -53,7 +53,7 @@ fn each_value_of_a_cache_is_dropped_once(rt: HostRuntime) -> Result<(), Fail> {
     Ok(())
 }
 
-// Takes a step, and compares its result.
+// Takes a step, and checks its result.
 fn take(rt: &impl Abort, cache: &mut Cache, counted: &Rc<u64>, at: At, upserts: bool, step: &Step) {
     match *step {
         FillBelow(to) => fill(rt, cache, counted, upserts, to),
@@ -82,7 +82,7 @@ fn is_below_16(key: &u64, _value: &mut Rc<u64>) -> bool {
     *key < 16
 }
 
-// A clone of a value is inserted under a key. Whether it succeeded.
+// Inserts a clone of a value under a key. Returns whether it succeeded.
 fn give(cache: &mut Cache, counted: &Rc<u64>, upserts: bool, key: u64) -> bool {
     match counted.clone() {
         Ok(value) => {

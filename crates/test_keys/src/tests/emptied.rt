@@ -1,5 +1,5 @@
-//! Collections that are taken and leave empty ones, and collections that are the values of a map's
-//! places.
+//! Collections that are taken by `try_take`, which leaves empty ones, and collections that are the
+//! values of a map.
 use super::check_same;
 use collections::DefaultHash;
 use collections::hash_cache::HashCache;
@@ -10,7 +10,7 @@ use std::alloc::AllocError;
 use std::mem;
 use std::test::Fail;
 
-/// How many keys are left in the place of a taken collection with one key, and whether that one was
+/// How many keys are left behind when a collection with one key is taken, and whether that key was
 /// taken.
 type Left = Result<(usize, bool), AllocError>;
 
@@ -60,7 +60,7 @@ fn a_taken_cache_leaves_its_capacities(rt: HostRuntime) -> Result<(), Fail> {
     Ok(())
 }
 
-// Takes a cache, and puts a pair into what is left. How many slots that has.
+// Takes a cache, and puts a pair into the empty one that is left. Returns how many slots that has.
 fn slots_once_taken(cache: &mut HashCache<u64, u64>) -> Result<usize, AllocError> {
     let taken = mem::try_take(cache)?;
     drop(taken);

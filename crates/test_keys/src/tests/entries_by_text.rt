@@ -1,4 +1,4 @@
-//! Stories of the places of words, found by texts: a word is made only if the map hasn't it.
+//! Stories of entries that are looked up by a text: a word is made from it only if it is absent.
 use super::check_same;
 use super::forms::owned;
 use Expect::*;
@@ -13,13 +13,13 @@ use test_helpers::{At, steps};
 /// A map from words to numbers.
 type Words = HashMap<String, u64>;
 
-/// What is done at a word's place.
+/// A call on a word's entry, or an expectation.
 enum Step {
     /// Insert a number if the word is absent, and then add one to the number: this is the result.
     InsertAndAddOne(&'static str, u64, u64),
     /// Make the word and insert it with a number if it is absent: whether it was.
     InsertVacant(&'static str, u64, bool),
-    /// Insert the second word at the place of the first, which takes no other: whether it was
+    /// Insert the second word by the entry of the first, which accepts no other: whether it was
     /// inserted.
     InsertOther(&'static str, &'static str, bool),
     /// Change the number of a present word: this was the earlier one.
@@ -65,7 +65,7 @@ fn play(rt: &impl Abort, alloc: Global, words: &mut Words) {
     }
 }
 
-// Takes a step, and compares its result.
+// Takes a step, and checks its result.
 fn take(rt: &impl Abort, alloc: Global, words: &mut Words, at: At, step: &Step) {
     match step {
         InsertAndAddOne(word, number, after) => {
@@ -92,7 +92,7 @@ fn take(rt: &impl Abort, alloc: Global, words: &mut Words, at: At, step: &Step) 
     }
 }
 
-// Compares what is seen of the map.
+// Checks an expectation about the map.
 fn check_expected(rt: &impl Abort, words: &Words, at: At, wanted: &Expect) {
     match *wanted {
         Number(word, number) => check_same(rt, number_of(words, word), number, at),
@@ -113,7 +113,8 @@ fn count(alloc: Global, words: &mut Words, word: &str, number: u64) -> Option<u6
     number_of(words, word)
 }
 
-// Puts a key and a number where the word isn't. Returns whether they were inserted.
+// Inserts a key and a number by the entry of a word, if it is vacant. Returns whether they were
+// inserted.
 fn put(words: &mut Words, word: &str, key: String, number: u64) -> bool {
     match words.entry_ref(word) {
         EntryRef::Vacant(place) => place.insert_with_key(key, number).is_ok(),
@@ -156,7 +157,7 @@ fn add_one(held: &mut u64) {
     *held = held.wrapping_add(1);
 }
 
-// Takes the word out, and returns its number.
+// Removes the word, and returns its number.
 fn take_out(words: &mut Words, word: &str) -> Option<u64> {
     match words.remove(word) {
         Some((_, number)) => Some(number),

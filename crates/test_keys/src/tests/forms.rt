@@ -64,7 +64,7 @@ fn words_are_changed_and_removed_by_texts(rt: HostRuntime) -> Result<(), Fail> {
     Ok(())
 }
 
-// Takes a step, and compares the earlier number.
+// Takes a step, and checks the earlier number.
 fn take(rt: &impl Abort, alloc: Global, words: &mut Words, at: At, step: &Step) {
     match *step {
         Insert(word, number) => check_same(rt, put(alloc, words, word, number), true, at),
@@ -102,7 +102,7 @@ pub(super) fn owned(alloc: Global, text: &str) -> String {
     }
 }
 
-// A word is inserted into each collection with a number. Whether all insertions succeeded.
+// Inserts a word with a number into each collection. Returns whether all insertions succeeded.
 pub(super) fn put(alloc: Global, words: &mut Words, word: &str, number: u64) -> bool {
     words.map.insert(owned(alloc, word), number).is_ok()
         && words.set.insert_new(owned(alloc, word)).is_ok()
@@ -167,7 +167,7 @@ fn lists_are_changed_and_removed_by_slices(rt: HostRuntime) -> Result<(), Fail> 
     Ok(())
 }
 
-// Of a map of the lists each is changed and removed twice.
+// Changes each list's number in a map, and removes each list twice.
 fn change_lists(rt: &impl Abort, alloc: Global) {
     let mut map: Lists = HashMap::new(alloc);
     for (list, number) in LISTS.iter() {
@@ -184,7 +184,7 @@ fn change_lists(rt: &impl Abort, alloc: Global) {
     check_same(rt, map.is_empty(), true, "map");
 }
 
-// Of a set of the lists each is removed twice.
+// Removes each list twice from a set.
 fn remove_lists(rt: &impl Abort, alloc: Global) {
     let mut set: HashSet<Vec<u8>> = HashSet::new(alloc);
     for (list, _) in LISTS.iter() {

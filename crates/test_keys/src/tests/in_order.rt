@@ -15,7 +15,7 @@ use std::test::Fail;
 // How many keys there are.
 const KEYS: usize = 20000;
 
-// The most keys that a bucket has when all have come: its 32 slots, and as many again.
+// The most keys that a bucket has when all are inserted: its 32 slots, and as many again.
 const MOST: usize = 64;
 
 // Checks how many keys and slots there are, and how many keys the fullest bucket has.
@@ -168,8 +168,8 @@ fn remove_range(map: &mut HashMap<u64, u64>, keys: &[u64], from: usize, to: usiz
     }
 }
 
-// Keys go from the buckets that the samples of a resize read: those in the middle, the last but one
-// key, and then the first. Three of four pairs are left, which the samples don't see.
+// Keys are removed from the buckets that the samples of a resize read: those in the middle, the
+// last but one key, and then the first. Three of four pairs are left, which the samples don't see.
 #[test]
 fn a_map_keeps_slots_for_the_pairs_that_no_sample_sees(rt: HostRuntime) -> Result<(), Fail> {
     let mut map = filled(rt.alloc());
@@ -185,7 +185,7 @@ fn a_map_keeps_slots_for_the_pairs_that_no_sample_sees(rt: HostRuntime) -> Resul
     Ok(())
 }
 
-// As few are left as the samples say: the slots are freed.
+// As few are left as the samples report: the slots are freed.
 #[test]
 fn a_map_frees_the_slots_of_most_of_its_pairs(rt: HostRuntime) -> Result<(), Fail> {
     let mut map = filled(rt.alloc());
@@ -203,7 +203,7 @@ fn a_map_frees_the_slots_of_most_of_its_pairs(rt: HostRuntime) -> Result<(), Fai
     Ok(())
 }
 
-// All keys have one hash, so more slots would help none: the slots stay within 16 for each pair.
+// All keys have one hash, so more slots wouldn't help: there are at most 16 slots for each pair.
 #[test]
 fn a_map_of_one_hash_grows_no_further(rt: HostRuntime) -> Result<(), Fail> {
     let mut map: HashMap<u64, u64, ScriptHash> = HashMap::with_hasher(rt.alloc(), ScriptHash::Zero);

@@ -1,4 +1,4 @@
-//! Stories of the places of words whose keys the map makes, if it hasn't the words.
+//! Stories of entries that are looked up by a text: the map makes the word itself if it is absent.
 use super::check_same;
 use super::forms::owned;
 use Expect::*;
@@ -15,7 +15,7 @@ use test_helpers::{At, steps};
 /// A map from words to numbers.
 type Words = HashMap<String, u64>;
 
-/// A text of which no word can be made, as if allocation failed.
+/// A text from which no word can be made, as if allocation failed.
 #[derive(Clone, Copy)]
 struct Unmade {
     text: &'static str,
@@ -49,20 +49,20 @@ impl<S: BuildHasher> ToKey<String, StdHash<S>> for Unmade {
     }
 }
 
-/// What is done at a word's place, by its text if nothing else is said.
+/// A call on a word's entry, looked up by its text unless stated otherwise, or an expectation.
 enum Step {
     /// Insert a number by `or_insert` if the word is absent. Then add one: this is the result.
     OrInsert(&'static str, u64, u64),
     /// The same by another word that is equal.
     OrInsertByEqual(&'static str, u64, u64),
-    /// The same by a text of which no word can be made: the number is returned if the word is
+    /// The same by a text from which no word can be made: the number is returned if the word is
     /// absent.
     OrInsertUnmade(&'static str, u64, Result<u64, u64>),
     /// The same by `or_insert_with`, and whether its function was called.
     OrInsertWith(&'static str, u64, (bool, u64)),
     /// The same by `or_default`.
     OrDefault(&'static str, u64),
-    /// Insert a number if the place is vacant: whether it was.
+    /// Insert a number if the entry is vacant: whether it was.
     InsertVacant(&'static str, u64, bool),
     /// Remove the word: its number.
     Remove(&'static str, Option<u64>),
@@ -101,7 +101,7 @@ fn play(rt: &impl Abort, alloc: Global, words: &mut Words) {
     }
 }
 
-// Takes a step, and compares its result.
+// Takes a step, and checks its result.
 fn take(rt: &impl Abort, alloc: Global, words: &mut Words, at: At, step: &Step) {
     match step {
         OrInsert(word, number, after) => {
@@ -127,7 +127,7 @@ fn take(rt: &impl Abort, alloc: Global, words: &mut Words, at: At, step: &Step) 
     }
 }
 
-// Compares what is seen of the map.
+// Checks an expectation about the map.
 fn check_expected(rt: &impl Abort, words: &Words, at: At, wanted: &Expect) {
     match *wanted {
         Number(word, number) => check_same(rt, words.get(word).copied(), number, at),

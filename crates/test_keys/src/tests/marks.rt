@@ -1,5 +1,6 @@
-//! Values that are counted, in an index: a removed one stays in its tombstone, and is dropped once,
-//! by an insertion that needs room, when the pairs are cleared, or with its array. Few wait so.
+//! Counted values in an index. A removed value stays in its tombstone, and is dropped once: by an
+//! insertion that needs room, when the pairs are cleared, or with its array. Few values wait for
+//! that.
 use super::check_same;
 use Step::*;
 use bucket_table::script::ScriptHash;
@@ -13,7 +14,7 @@ use test_helpers::{At, steps};
 
 type Index = HashIndex<u64, Rc<u64>, ScriptHash>;
 
-/// A call, or what is seen of the index.
+/// A call with its expected result, or an expectation.
 enum Step {
     /// Insert each key of a range.
     InsertRange(Range<u64>),
@@ -33,9 +34,9 @@ enum Step {
     RaiseMinimum(usize),
     /// Remove all pairs.
     Clear,
-    /// Expect a clone to have so many pairs, and so many values to exist then.
+    /// Expect a clone to have this many pairs, and this many values to exist then.
     ExpectClone(usize, usize),
-    /// Expect so many pairs and so many values.
+    /// Expect this many pairs and this many values.
     ExpectCounts(usize, usize),
 }
 
@@ -111,7 +112,7 @@ fn play(rt: &impl Abort, index: &mut Index, counted: &Rc<u64>, story: &Story) {
     }
 }
 
-// Inserts a key with a clone of a value. Whether it was inserted.
+// Inserts a key with a clone of a value. Returns whether it was inserted.
 fn insert_clone<H: KeyHash<u64>>(
     index: &mut HashIndex<u64, Rc<u64>, H>,
     counted: &Rc<u64>,
@@ -123,7 +124,7 @@ fn insert_clone<H: KeyHash<u64>>(
     }
 }
 
-// Takes a step, and compares its result.
+// Takes a step, and checks its result.
 fn take(rt: &impl Abort, index: &mut Index, counted: &Rc<u64>, at: At, step: &Step) {
     match step {
         InsertRange(keys) => check_same(rt, insert_range(index, counted, keys), true, at),
@@ -150,7 +151,7 @@ fn take(rt: &impl Abort, index: &mut Index, counted: &Rc<u64>, at: At, step: &St
     }
 }
 
-// Inserts keys with clones of a value. Whether all were inserted.
+// Inserts keys with clones of a value. Returns whether all were inserted.
 fn insert_range(index: &mut Index, counted: &Rc<u64>, keys: &Range<u64>) -> bool {
     let mut are_in = true;
     for key in keys.start..keys.end {

@@ -31,7 +31,7 @@ fn answer(rt: &impl Abort, set: &mut Set) {
     check_same(rt, set.take(&1), None, "take");
 }
 
-/// The numbers of pairs for which a map with one pair shrinks in turn, and its slots then: so many
+/// The numbers of pairs for which a map with one pair shrinks in turn, and its slots then: the
 /// pairs take no more than 13 of 16 slots, and half the slots would be too few, or fewer than 64.
 const SHRINKING: [(usize, usize); 3] = [(100, 128), (50, 64), (0, 64)];
 
@@ -132,8 +132,8 @@ fn a_map_extends_another(rt: HostRuntime) -> Result<(), Fail> {
     Ok(())
 }
 
-// Extends a map by another, and by a pair. How many pairs it has before that and then, and the
-// value of key 1.
+// Extends a map by another, and by a pair. Returns how many pairs it has before that and then, and
+// the value of key 1.
 fn copy_pairs(own: &mut Map, map: &Map) -> Result<(usize, usize, Option<u64>), AllocError> {
     own.extend(map)?;
     let copied = own.len();
@@ -160,7 +160,7 @@ fn a_set_extends_another(rt: HostRuntime) -> Result<(), Fail> {
     Ok(())
 }
 
-// Extends a set by another, and by a key. How many keys it has before that and then.
+// Extends a set by another, and by a key. Returns how many keys it has before that and then.
 fn copy_keys(own: &mut Set, set: &Set) -> Result<(usize, usize), AllocError> {
     own.extend(set)?;
     let copied = own.len();
@@ -177,14 +177,16 @@ fn the_allocator_of_a_collection_serves_others(rt: HostRuntime) -> Result<(), Fa
     Ok(())
 }
 
-// Puts a pair, and has the allocator of the map serve a list of its keys. How many that has.
+// Puts a pair, and makes a list of the map's keys with the map's allocator. Returns how many it
+// has.
 fn list_map(map: &mut Map) -> Result<usize, AllocError> {
     map.upsert(1, 10)?;
     let keys: Vec<&u64> = map.keys().collect(map.allocator())?;
     Ok(keys.len())
 }
 
-// Inserts a key, and has the allocator of the set serve a list of its keys. How many that has.
+// Inserts a key, and makes a list of the set's keys with the set's allocator. Returns how many it
+// has.
 fn list_set(set: &mut Set) -> Result<usize, AllocError> {
     set.insert(1)?;
     let keys: Vec<&u64> = set.iter().collect(set.allocator())?;

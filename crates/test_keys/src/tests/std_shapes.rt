@@ -55,7 +55,7 @@ fn a_struct_with_a_map_is_cloned(rt: HostRuntime) -> Result<(), Fail> {
     Ok(())
 }
 
-// Notes a word of three letters, which its copy hasn't.
+// Notes a word of three letters, which the copy doesn't contain.
 fn note_beside(rt: &impl Abort, all: &mut ByLength, copy: &ByLength) -> Result<(), AllocError> {
     note(all, 3, 7)?;
     check_same(rt, words_of(copy, 3), [0].as_slice(), "copy");
@@ -70,8 +70,8 @@ fn a_set_is_cloned(rt: HostRuntime) -> Result<(), Fail> {
     Ok(())
 }
 
-// Inserts a key into a set, and another once the set is cloned. How many keys the set and its clone
-// have then.
+// Inserts a key into a set, and another once the set is cloned. Returns how many keys the set and
+// its clone have then.
 fn grow_beside_clone(set: &mut HashSet<u64>) -> Result<(usize, usize), AllocError> {
     set.insert(1)?;
     let copy = set.clone()?;

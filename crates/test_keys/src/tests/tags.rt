@@ -88,7 +88,7 @@ enum OnSet {
     Get(Tagged, Option<u64>),
     /// Remove the key.
     Take(Tagged, Option<u64>),
-    /// Expect so many keys.
+    /// Expect this many keys.
     ExpectLen(usize),
 }
 
@@ -125,7 +125,7 @@ fn of_equal_keys_the_first_stays(rt: HostRuntime) -> Result<(), Fail> {
     Ok(())
 }
 
-// Makes a call on the map, and compares its result.
+// Makes a call on the map, and checks its result.
 fn call_map(rt: &impl Abort, map: &mut Map, at: At, call: &OnMap) {
     match *call {
         InsertPair(key, value, back) => {
@@ -145,7 +145,7 @@ fn call_map(rt: &impl Abort, map: &mut Map, at: At, call: &OnMap) {
     }
 }
 
-// Makes a call on the set, and compares its result.
+// Makes a call on the set, and checks its result.
 fn call_set(rt: &impl Abort, set: &mut Set, at: At, call: &OnSet) {
     match *call {
         InsertNew(key, back) => check_same(rt, returned(set.insert_new(key)), Some(back), at),
@@ -172,7 +172,7 @@ fn own_tag(own: &Tagged, _value: &mut u64) -> u64 {
     own.tag
 }
 
-// The tag of a key, where there is one.
+// The tag of a key, if there is one.
 fn tag_in(key: Option<Tagged>) -> Option<u64> {
     match key {
         Some(own) => Some(own.tag),

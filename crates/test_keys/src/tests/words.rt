@@ -50,7 +50,7 @@ fn check_keys(rt: &impl Abort, alloc: Global, words: &Words) -> Result<(), Alloc
     Ok(())
 }
 
-// Takes a step, and compares what is found.
+// Takes a step, and checks what is found.
 fn take(rt: &impl Abort, alloc: Global, words: &mut Words, at: At, step: &Step) {
     match *step {
         Insert(word, number) => check_same(rt, put(alloc, words, word, number), true, at),
@@ -96,7 +96,7 @@ fn lists_are_looked_up_by_slices(rt: HostRuntime) -> Result<(), Fail> {
     Ok(())
 }
 
-// Inserts a list. Whether it was present before, was inserted, and is present then.
+// Inserts a list. Returns whether it was present before, was inserted, and is present then.
 fn insert_list(alloc: Global, lists: &mut HashSet<Vec<u64>>, list: &[u64]) -> (bool, bool, bool) {
     let was_there = lists.contains(list);
     let came = match Vec::from_slice(alloc, list) {
@@ -149,7 +149,7 @@ fn shown<E: Error>(alloc: Global, error: &E) -> Result<String, AllocError> {
     format!(in alloc; "{error}")
 }
 
-// A word is inserted into a map once.
+// Checks the error's kind: none for a new word, another if it is present or allocation fails.
 fn check_insertions(rt: &impl Abort, alloc: Global) {
     let mut words = HashMap::new(alloc);
     check_same(rt, kind(words.insert("Ann", 1)), None, "inserted");
