@@ -58,7 +58,11 @@ impl Tickets {
         requires { len ≤ 2 ^ 58 }
         ensures { IfOk result (λ tickets. tickets ≡ first_tickets len) }
     {
-        let most = if len <= REHASHING_UNIT_LEN { 1 } else { MAXIMUM_OPEN };
+        let most = if len <= REHASHING_UNIT_LEN {
+            1
+        } else {
+            MAXIMUM_OPEN
+        };
         let open_units = Vec::with_capacity(alloc, most)?;
         Ok(Tickets {
             position: 0,
