@@ -3,7 +3,8 @@
 # none failing. The program judges each run itself: see the head of its main.rt.
 #
 # Digests aren't needed: a run must be `done` if the allocation that failed is one of digests, and only
-# then. An array allocates its digests in two steps, one after the other, of 4 and of 32 bytes per bucket.
+# then. An array of eight buckets or more allocates its digests in two steps, one after the other, of 4
+# and of 32 bytes per bucket.
 #
 # Needs rt on the PATH. The exit status is 0 if every run was right, otherwise 1.
 set -u
@@ -16,7 +17,7 @@ digests=
 if [ -n "$shim" ]; then
     ASKED_BYTES=1 run_refusing "$most" </dev/null
     digests=" $(awk '$1 == "asked" {
-            is_power = $2 >= 8
+            is_power = $2 >= 32
             for (rest = $2; rest > 1; rest /= 2) if (rest % 2) is_power = 0
             number++
             if (first && $2 == 8 * first) print number - 1, number
