@@ -1,5 +1,5 @@
 -- What a clear leaves of a map.
-use Rattle.std.proofs.Common.{ℕ, ◌≡◌, ◌≤◌, ◌<◌, ◌*◌, ◌/◌, ◌++◌, ◌&&◌, ◌∷◌, ◌⊎◌, ◌∙◌, [], Bool, List, ap, arith, false, inl, inr, length, map, nat_le, refl, ⊎_elim}
+use Rattle.std.proofs.Common.{◌≡◌, ◌≤◌, ◌<◌, ◌*◌, ◌/◌, ◌++◌, ◌&&◌, ◌∷◌, ◌⊎◌, ◌∙◌, [], Bool, List, ap, arith, false, inl, inr, length, map, nat_le, refl, ⊎_elim}
 use Rattle.std.proofs.Common.{replicate, true}
 use Rattle.std.proofs.lemmas.Bool.{le-leb, lt-leb}
 use Rattle.std.proofs.lemmas.Bool.Decides.{eqb_tells}
@@ -11,7 +11,6 @@ use Rattle.bucket_table.specs.Map.LookingUp.{pairs_in_all}
 use Rattle.bucket_table.specs.Views.ArraysView.{TableView, pairs_of}
 use Rattle.bucket_table.specs.Views.Settings.{KeepsSettings}
 use Rattle.bucket_table.specs.Walking.Retains.{RetainsEach}
-use Rattle.bucket_table.specs.Walking.Row.{row_of}
 use Rattle.bucket_table.proofs.CallerLemmas.{pairs_in_row}
 use Rattle.collections.specs.Maps.{map_of}
 use Rattle.collections.specs.Slots.{cleared, kept_slots}

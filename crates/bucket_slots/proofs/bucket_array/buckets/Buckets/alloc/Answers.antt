@@ -1,5 +1,4 @@
-use Rattle.bucket_slots.proofs.Words.{ap, arith, inl, inr, length, refl, sym, ℕ, ◌-◌, ◌∙◌}
-use Rattle.std.proofs.lemmas.List.{length-replicate}
+use Rattle.bucket_slots.proofs.Words.{ap, inr, ℕ, ◌-◌, ◌∙◌}
 use Rattle.bucket_slots.proofs.ArrayParts.{long_view, new_parts, new_view}
 use Rattle.bucket_slots.proofs.PowersOfTwo.{shifted_one}
 use Rattle.bucket_slots.proofs.bucket_array.buckets.Buckets.alloc.Goals as goal

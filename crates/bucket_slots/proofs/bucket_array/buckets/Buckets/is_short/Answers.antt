@@ -1,4 +1,4 @@
-use Rattle.bucket_slots.proofs.Words.{ap, length, rules, sym, ◌∙◌}
+use Rattle.bucket_slots.proofs.Words.{ap, length, rules, ◌∙◌}
 use Rattle.bucket_slots.proofs.ArrayParts.{len_of}
 use Rattle.bucket_slots.proofs.bucket_array.buckets.Buckets.is_short.Goals as goal
 

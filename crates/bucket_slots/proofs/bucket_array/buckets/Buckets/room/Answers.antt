@@ -1,4 +1,4 @@
-use Rattle.bucket_slots.proofs.Words.{ap, arith, length, ◌∙◌}
+use Rattle.bucket_slots.proofs.Words.{arith}
 use Rattle.bucket_slots.proofs.ArrayParts.{one_fits, some_beside}
 use Rattle.bucket_slots.proofs.bucket_array.buckets.Buckets.room.Goals as goal
 
