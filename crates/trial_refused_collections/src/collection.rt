@@ -93,8 +93,8 @@ impl Collection {
         (came, on_each!(self, any => any.len(), cache => cache.len()))
     }
 
-    /// Clears the collection. Returns whether it then has no pair, and no slot either unless it is a
-    /// map or a set, which may keep those of the minimum.
+    /// Clears the collection. Returns whether it then has no pair, and no slot either unless it is
+    /// a map or a set, which may keep those of the minimum.
     pub(crate) fn clear(&mut self) -> bool {
         on_each!(self, any => any.clear(), cache => cache.clear());
         match self {

@@ -10,8 +10,8 @@ invariant_of-self g c =
 pub returns-clause-placed : goal.returns-clause-placed
 returns-clause-placed g c =
     let e = c.relocate.ensures in
-    placed_moved _ _ c.args.index _ _ _ _ _ _ c.relocate.result (rw (← c.self.view_is, ← c.array_mut.ensures.array) at c.requires.within) e.moved
-    e.linked_kept e.law
+    placed_moved _ _ c.args.index _ _ _ _ _ _ c.relocate.result (rw (← c.self.view_is, ← c.array_mut.ensures.array) at c.requires.within)
+    e.moved e.linked_kept e.law
     (rw (← c.self.view_is, ← c.current_in-current.ensures.array, ← c.array_mut.ensures.array) at c.requires.placed)
 
 pub returns-clause-done : goal.returns-clause-done
@@ -21,8 +21,9 @@ returns-clause-done g c = rw (← c.self.view_is, ← c.current_in-current.ensur
 
 pub returns-clause-refused : goal.returns-clause-refused
 returns-clause-refused g c =
-    rw (← c.self.view_is, ← c.current_in-current.ensures.array, ← c.array_mut.ensures.array) (refused_at _ _ c.args.index _ _ _ _ _ c.relocate.result
-    c.relocate.ensures.kept c.relocate.ensures.linked_kept)
+    rw (← c.self.view_is, ← c.current_in-current.ensures.array, ← c.array_mut.ensures.array)
+    (refused_at _ _ c.args.index _ _ _ _ _ c.relocate.result c.relocate.ensures.kept c.relocate.ensures.linked_kept)
 
 pub returns-clause-recency : goal.returns-clause-recency
-returns-clause-recency g c = rw (← c.self.view_is, ← c.current_in-current.ensures.array, ← c.array_mut.ensures.array) c.relocate.ensures.recency
+returns-clause-recency g c =
+    rw (← c.self.view_is, ← c.current_in-current.ensures.array, ← c.array_mut.ensures.array) c.relocate.ensures.recency
