@@ -13,7 +13,7 @@ use Rattle.bucket_slots.specs.BucketView.{block_at, bucket_with_value, row_at, s
 use Rattle.bucket_slots.specs.Evicting.{slots_touched}
 use Rattle.bucket_slots.specs.Slots.{slot_with_value}
 use Rattle.bucket_slots.specs.Layout.ArrayFields.{IsArray}
-use Rattle.bucket_slots.specs.Layout.Digests.{Settles, AreDigests, ChangesOne, Digest, DigestLists, IsDigest, IsLost, KnowsNone, digest_at}
+use Rattle.bucket_slots.specs.Layout.Digests.{Refreshes, AreDigests, ChangesOne, Digest, DigestLists, IsDigest, IsStale, KnowsNone, digest_at}
 use Rattle.bucket_slots.specs.declared.bucket.TheConstants.{BUCKET_LEN}
 use Rattle.bucket_slots.proofs.Counting.{length-live_pairs, length-live_pairs-append, tally}
 use Rattle.bucket_slots.proofs.Bitmaps.{lowest}
@@ -39,21 +39,21 @@ module _ {K V : Type 0} where
   AreDigests-set old new buckets index bucket kept below others here i said = elim (cases_eq i index) [
     | inl same ↦
         let there = get_or-set_same buckets index bucket empty_bucket below in
-        let is = here (λ lost. said (ap (λ k. (digest_at new k).live) same ∙ lost)) in
+        let is = here (λ stale. said (ap (λ k. (digest_at new k).live) same ∙ stale)) in
         (rw (length-set buckets index bucket) is.0, rw (same, there) is.1)
     | inr other ↦
-        let is = kept i (λ lost. said (ap (λ d. d.live) (others i other) ∙ lost)) in (
+        let is = kept i (λ stale. said (ap (λ d. d.live) (others i other) ∙ stale)) in (
           rw (length-set buckets index bucket) is.0,
           rw (others i other, get_or-set_other buckets index i bucket empty_bucket other) is.1,
         )
   ]
 
   -- one digest becomes stale, and its bucket changes
-  pub AreDigests-lost : (old new : DigestLists) (buckets : List (BucketView K V)) (index : ℕ) (bucket : BucketView K V)
+  pub AreDigests-stale : (old new : DigestLists) (buckets : List (BucketView K V)) (index : ℕ) (bucket : BucketView K V)
       → AreDigests old buckets
-      → index < length buckets → ChangesOne index old new → IsLost (digest_at new index) → AreDigests new (set buckets index bucket)
-  AreDigests-lost old new buckets index bucket kept below others lost =
-      AreDigests-set old new buckets index bucket kept below others (λ said. absurd (said lost))
+      → index < length buckets → ChangesOne index old new → IsStale (digest_at new index) → AreDigests new (set buckets index bucket)
+  AreDigests-stale old new buckets index bucket kept below others stale =
+      AreDigests-set old new buckets index bucket kept below others (λ said. absurd (said stale))
 
   matched_bit : (slot : Slot K V) (byte own bit : ℕ) → (is_live slot ≡ true → byte_of slot ≡ Some own)
       → (is_live slot ≡ true → bit ≡ cond (own == byte) 1 0) → min bit (cond (is_live slot) 1 0) ≡ cond (has_byte byte slot) 1 0
@@ -151,9 +151,9 @@ module _ {K V : Type 0} where
       AreDigests-set old new buckets index bucket kept.1 below others here,
     )
 
-    pub lost_at : IsLost (digest_at new index) → (bucket : BucketView K V)
+    pub stale_at : IsStale (digest_at new index) → (bucket : BucketView K V)
         → IsArray (length (set buckets index bucket)) offset size × AreDigests new (set buckets index bucket)
-    lost_at lost bucket = set_at bucket (λ said. absurd (said lost))
+    stale_at stale bucket = set_at bucket (λ said. absurd (said stale))
 
   -- a bucket of an array changes, and its digest stays true
   pub kept_at : (digests : DigestLists) (buckets : List (BucketView K V)) (index offset size : ℕ)
@@ -219,21 +219,22 @@ module _ {K V : Type 0} where
   ]
 
   -- one digest is stored anew
-  pub AreDigests-settled : (old new : DigestLists) (buckets : List (BucketView K V)) (index : ℕ) (bucket : BucketView K V) (bits : ℕ)
-      (bytes : List ℕ) → 4 < length buckets → AreDigests old buckets → ChangesOne index old new → Settles bits bytes (digest_at new index)
+  pub AreDigests-refreshed : (old new : DigestLists) (buckets : List (BucketView K V)) (index : ℕ) (bucket : BucketView K V) (bits : ℕ)
+      (bytes : List ℕ) → 4 < length buckets → AreDigests old buckets → ChangesOne index old new → Refreshes bits bytes (digest_at new index)
       → (bits ≢ 2 ^ 32 - 1 → IsDigest (record { live = bits; bytes = bytes }) bucket) → bucket ≡ bucket_at buckets index
       → AreDigests new buckets
-  AreDigests-settled old new buckets index bucket bits bytes many kept others settled is read i said = elim (cases_eq i index) [
-    | inl same ↦ (many, rw (same, ← read) (at_index settled (λ lost. said (ap (λ k. (digest_at new k).live) same ∙ lost))))
+  AreDigests-refreshed old new buckets index bucket bits bytes many kept others refreshed is read i said = elim (cases_eq i index) [
+    | inl same ↦ (many, rw (same, ← read) (at_index refreshed (λ stale. said (ap (λ k. (digest_at new k).live) same ∙ stale))))
     | inr other ↦
-        let was = kept i (λ lost. said (ap (λ d. d.live) (others i other) ∙ lost)) in
+        let was = kept i (λ stale. said (ap (λ d. d.live) (others i other) ∙ stale)) in
         (was.0, rw (others i other) was.1)
   ]
     where
-      at_index : Settles bits bytes (digest_at new index) → (digest_at new index).live ≢ 2 ^ 32 - 1 → IsDigest (digest_at new index) bucket
-      at_index (inl lost) known = absurd (known lost)
+      at_index : Refreshes bits bytes (digest_at new index) → (digest_at new index).live ≢ 2 ^ 32 - 1
+          → IsDigest (digest_at new index) bucket
+      at_index (inl stale) known = absurd (known stale)
       at_index (inr e) known =
-          subst (λ (d : Digest). IsDigest d bucket) (sym e) (is (λ lost. known (ap (λ (d : Digest). d.live) e ∙ lost)))
+          subst (λ (d : Digest). IsDigest d bucket) (sym e) (is (λ stale. known (ap (λ (d : Digest). d.live) e ∙ stale)))
 
   -- if no live own slot has the byte, none matches
   pub none_by_mask : (wants : K → Bool) (byte : ℕ) (bucket : BucketView K V) → IsMaskOf (has_byte byte) bucket.own 0 → bucket.chain ≡ []
@@ -315,12 +316,12 @@ module _ {K V : Type 0} where
   pub few_live : (digest : Digest) (bucket : BucketView K V) (len : ℕ) → (digest.live ≢ 2 ^ 32 - 1 → IsDigest digest bucket)
       → len ≤ 32 → ones digest.live < len → length (pairs_in bucket) < len
   few_live digest bucket len is most few =
-      let d = is (λ lost. let all = ones-ones 32 in omega (arith, rw lost at few, all, most)) in
+      let d = is (λ stale. let all = ones-ones 32 in omega (arith, rw stale at few, all, most)) in
       omega (arith, few, live_counted digest bucket d)
 
 -- a bitmap that isn't stale
-pub said_is : (lost : Bool) (bits : ℕ) → (bits ≡ 2 ^ 32 - 1 → IsTrue lost) → lost ≡ false → bits ≢ 2 ^ 32 - 1
-said_is lost bits lost_is is e = let yes : lost ≡ true = lost_is e in absurd cc
+pub said_is : (stale : Bool) (bits : ℕ) → (bits ≡ 2 ^ 32 - 1 → IsTrue stale) → stale ≡ false → bits ≢ 2 ^ 32 - 1
+said_is stale bits stale_is is e = let yes : stale ≡ true = stale_is e in absurd cc
 
 pub null_at : (valid : Bool) (pos : ℕ) → ((pos ≡ BUCKET_LEN → ⊥) → IsTrue valid) → valid ≡ false → pos ≡ BUCKET_LEN
 null_at valid pos points is = elim (cases_eq pos BUCKET_LEN) [

@@ -85,7 +85,7 @@ module _ {K V : Type 0} where
   pub all_own : (digests : DigestLists) (buckets : List (BucketView K V)) (index live : ℕ) → AreDigests digests buckets
       → live ≡ (digest_at digests index).live → live ≢ 2 ^ 32 - 1 → AreAllOwn (bucket_at buckets index) live
   all_own digests buckets index live are is known =
-      let said = (are index (λ lost. known (is ∙ lost))).1 in
+      let said = (are index (λ stale. known (is ∙ stale))).1 in
       record { mask = rw is said.mask; chainless = said.chainless }
 
   -- what a digest of a bucket states

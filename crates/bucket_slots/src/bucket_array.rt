@@ -10,7 +10,7 @@
 //! zeroed raw memory, aligns it and writes data blocks into it.
 //!
 //! What `digested`, `moving`, `walking` and `writing` export is public only for `bucket_table`, as
-//! are `settle`, `adopt_digests`, `start_digests`, `spread_own`, `release_into` and
+//! are `refresh`, `adopt_digests`, `start_digests`, `spread_own`, `release_into` and
 //! `release_around`.
 ghost use Rattle.std.specs.Prelude.{◌≡◌, ◌*◌, ◌^◌, ◌<◌, ◌≤◌, ◌↔◌, IfOk, IsTrue, length};
 ghost use Rattle.std.specs.Borrow.{sem};

@@ -20,20 +20,20 @@ abbrev pub digest_at : DigestLists → ℕ → Digest
 digest_at lists index = record { live = slice_index_or lists.lives index (2 ^ 32 - 1); bytes = slice_index_or lists.bytes index [] }
 
 -- a digest whose bitmap is all ones is stale
-abbrev pub IsLost : Digest → Type 0
-IsLost digest = digest.live ≡ 2 ^ 32 - 1
+abbrev pub IsStale : Digest → Type 0
+IsStale digest = digest.live ≡ 2 ^ 32 - 1
 
 -- all digests from an index on are stale
 abbrev pub KnowsNone : ℕ → DigestLists → Type 0
-KnowsNone from digests = (index : ℕ) → from ≤ index → IsLost (digest_at digests index)
+KnowsNone from digests = (index : ℕ) → from ≤ index → IsStale (digest_at digests index)
 
 -- only one digest changes
 abbrev pub ChangesOne : ℕ → DigestLists → DigestLists → Type 0
 ChangesOne index old new = (i : ℕ) → i ≢ index → digest_at new i ≡ digest_at old i
 
 -- the digest is stored, or it is stale
-abbrev pub Settles : ℕ → List ℕ → Digest → Type 0
-Settles live bytes digest = IsLost digest ⊎ (digest ≡ record { live = live; bytes = bytes })
+abbrev pub Refreshes : ℕ → List ℕ → Digest → Type 0
+Refreshes live bytes digest = IsStale digest ⊎ (digest ≡ record { live = live; bytes = bytes })
 
 -- the bits of the bitmap are the live own slots, the digest has their bytes, and there is no chain
 pub record IsDigest {K V : Type 0} (digest : Digest) (bucket : BucketView K V) : Type 0 where

@@ -9,7 +9,7 @@ ghost use Rattle.bucket_slots.specs.Searching.{matching_len, pair_wanted, place_
 ghost use Rattle.bucket_slots.specs.Slots.{is_live, live_pair};
 
 use super::BucketArray;
-use super::digests::{Digests, is_lost};
+use super::digests::{Digests, is_stale};
 use crate::bucket::{CACHE, EntryPtr, KeyProbe};
 use crate::lru::LruList;
 use std::alloc::Global;
@@ -154,7 +154,7 @@ impl<K, V, L: LruList, const TYPE: u8> BucketArray<K, V, L, TYPE> {
     /// buckets has no digests.
     ///
     /// Allocates nothing. O(own slots).
-    pub fn settle(&mut self, index: usize)
+    pub fn refresh(&mut self, index: usize)
         requires { index < length self.old }
         ensures { self.new ≡ self.old }
     {
@@ -163,7 +163,7 @@ impl<K, V, L: LruList, const TYPE: u8> BucketArray<K, V, L, TYPE> {
         }
         self.room();
         let (live, bytes) = self.buckets.get(index).digest();
-        self.digests.settle(index, live, bytes);
+        self.digests.refresh(index, live, bytes);
     }
 
     /// Refreshes a bucket's digest if it is stale. No bucket changes.
@@ -172,8 +172,8 @@ impl<K, V, L: LruList, const TYPE: u8> BucketArray<K, V, L, TYPE> {
         requires { index < length self.old }
         ensures { self.new ≡ self.old }
     {
-        if is_lost(self.digests.live(index)) {
-            self.settle(index);
+        if is_stale(self.digests.live(index)) {
+            self.refresh(index);
         }
     }
 
@@ -202,7 +202,7 @@ impl<K, V, L: LruList, const TYPE: u8> BucketArray<K, V, L, TYPE> {
         }
         self.restart_digests(alloc);
         for index in 0..self.len() {
-            self.settle(index);
+            self.refresh(index);
         }
     }
 

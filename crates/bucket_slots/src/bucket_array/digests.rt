@@ -7,8 +7,8 @@ ghost use Rattle.std.specs.Prelude.{IfSome, IsTrue, ◌↔◌, [], bit_and, leng
 ghost use Rattle.std.specs.Int.Count.{ones};
 ghost use Rattle.bucket_slots.specs.Layout.Bitmaps.{SetsBit};
 ghost use Rattle.bucket_slots.specs.ArrayView.{bucket_at};
-ghost use Rattle.bucket_slots.specs.Layout.Digests.{AreDigests, ChangesOne, IsLost, KnowsNone};
-ghost use Rattle.bucket_slots.specs.Layout.Digests.{Settles, digest_at};
+ghost use Rattle.bucket_slots.specs.Layout.Digests.{AreDigests, ChangesOne, IsStale, KnowsNone};
+ghost use Rattle.bucket_slots.specs.Layout.Digests.{Refreshes, digest_at};
 ghost use Rattle.bucket_slots.specs.Masks.{IsMaskOf};
 ghost use Rattle.bucket_slots.specs.Searching.{has_byte};
 ghost use Rattle.bucket_slots.specs.Slots.{is_live};
@@ -22,7 +22,7 @@ use std::alloc::Global;
 use std::marker::Model;
 
 /// The bitmap of a stale digest.
-const LOST: u32 = u32::MAX;
+const STALE: u32 = u32::MAX;
 
 /// The digests of an array's buckets.
 #[derive(Drop)]
@@ -75,13 +75,13 @@ impl Digests {
     {
         match self.lives.get(index) {
             Some(live) => *live,
-            None => LOST,
+            None => STALE,
         }
     }
 
     /// Returns whether the digests of a bucket and of all buckets after it are stale.
     #[inline(always)]
-    pub(crate) fn is_lost_from(&self, index: usize) -> bool
+    pub(crate) fn is_stale_from(&self, index: usize) -> bool
         ensures { IsTrue result → KnowsNone index self.now }
     {
         self.lives.len() <= index
@@ -109,10 +109,10 @@ impl Digests {
         ensures long { IfSome result (λ _known. 4 < length buckets.now) }
     {
         let live = self.live(index);
-        if is_lost(live) {
+        if is_stale(live) {
             return None;
         }
-        prove!(live != LOST);
+        prove!(live != STALE);
         Some((live, self.candidates(index, live, (hash % 256) as u8)))
     }
 
@@ -129,18 +129,18 @@ impl Digests {
     /// Makes a bucket's digest stale.
     #[inline(always)]
     pub(crate) fn lose(&mut self, index: usize)
-        ensures lost { IsLost (digest_at self.new index) }
+        ensures stale { IsStale (digest_at self.new index) }
         ensures others { ChangesOne index self.old self.new }
     {
         if index < self.lives.len() {
-            self.lives[index] = LOST;
+            self.lives[index] = STALE;
         }
     }
 
     /// Stores a bucket's digest, if there is room for it.
     #[inline(always)]
-    pub(crate) fn settle(&mut self, index: usize, live: u32, bytes: &[u8; BUCKET_LEN])
-        ensures settled { Settles live bytes.now (digest_at self.new index) }
+    pub(crate) fn refresh(&mut self, index: usize, live: u32, bytes: &[u8; BUCKET_LEN])
+        ensures refreshed { Refreshes live bytes.now (digest_at self.new index) }
         ensures others { ChangesOne index self.old self.new }
     {
         if index < self.lives.len() {
@@ -192,8 +192,8 @@ impl Digests {
 
 /// Returns whether a bitmap is that of a stale digest.
 #[inline(always)]
-pub(crate) fn is_lost(live: u32) -> bool
+pub(crate) fn is_stale(live: u32) -> bool
     ensures { IsTrue result ↔ (live ≡ 2 ^ 32 - 1) }
 {
-    live == LOST
+    live == STALE
 }

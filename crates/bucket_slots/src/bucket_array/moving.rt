@@ -34,7 +34,7 @@ impl<K: Drop, V: Drop, L: LruList, const TYPE: u8> BucketArray<K, V, L, TYPE> {
         if start >= self.buckets.len() {
             return;
         }
-        if !self.digests.is_lost_from(start) {
+        if !self.digests.is_stale_from(start) {
             return;
         }
         self.room();

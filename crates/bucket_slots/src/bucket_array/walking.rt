@@ -7,7 +7,7 @@ ghost use Rattle.bucket_slots.specs.OwnWalks.{AreAllAfter, AreAllOwn};
 ghost use Rattle.bucket_slots.specs.Walking.{CallsEach};
 
 use super::BucketArray;
-use super::digests::is_lost;
+use super::digests::is_stale;
 use crate::bucket::EntryPtr;
 use crate::lru::LruList;
 
@@ -19,7 +19,7 @@ impl<K, V, L: LruList, const TYPE: u8> BucketArray<K, V, L, TYPE> {
         ensures { IfSome result (λ live. AreAllOwn (bucket_at self.now index) live) }
     {
         let live = self.digests.live(index);
-        if !is_lost(live) {
+        if !is_stale(live) {
             return Some(live);
         }
         if !self.buckets.is_short() || self.buckets.len() <= index {
@@ -27,7 +27,7 @@ impl<K, V, L: LruList, const TYPE: u8> BucketArray<K, V, L, TYPE> {
         }
         self.room();
         let (live, _bytes) = self.buckets.get(index).digest();
-        if is_lost(live) { None } else { Some(live) }
+        if is_stale(live) { None } else { Some(live) }
     }
 
     /// Returns a bitmap of the live own slots of a bucket after a pointer, if the bucket's digest

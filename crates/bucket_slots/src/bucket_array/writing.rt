@@ -6,7 +6,7 @@ ghost use Rattle.bucket_slots.specs.Clearing.{slots_after_insertion};
 ghost use Rattle.bucket_slots.specs.Digested.{AnswersPut, TakesWanted, UpsertsIn};
 
 use super::BucketArray;
-use super::digests::is_lost;
+use super::digests::is_stale;
 use crate::bucket::{EqProbe, Generation, INDEX, KeyProbe};
 use crate::lru::LruList;
 use std::mem;
@@ -39,7 +39,7 @@ impl<K: Drop, V: Drop, L: LruList, const TYPE: u8> BucketArray<K, V, L, TYPE> {
     {
         self.room();
         let Some((live, left)) = self.digests.known(&self.buckets, index, hash) else {
-            return self.take_lost(index, hash, probe);
+            return self.take_stale(index, hash, probe);
         };
         let at = match self.buckets.find_among(index, left, hash, probe) {
             Some((at, _, _)) => at,
@@ -53,7 +53,7 @@ impl<K: Drop, V: Drop, L: LruList, const TYPE: u8> BucketArray<K, V, L, TYPE> {
 
     /// Does what `take_by` does, if the bucket's digest is stale.
     #[inline(always)]
-    fn take_lost<P: KeyProbe<K>>(
+    fn take_stale<P: KeyProbe<K>>(
         &mut self,
         index: usize,
         hash: u64,
@@ -73,7 +73,7 @@ impl<K: Drop, V: Drop, L: LruList, const TYPE: u8> BucketArray<K, V, L, TYPE> {
         }
         let pair = bucket.remove(&mut at);
         let left = bucket.len();
-        self.settle(index);
+        self.refresh(index);
         Some((pair, left))
     }
 
@@ -106,10 +106,10 @@ impl<K: Drop, V: Drop, L: LruList, const TYPE: u8> BucketArray<K, V, L, TYPE> {
     {
         self.room();
         if TYPE == INDEX {
-            return self.insert_lost(index, hash, key, value, generation);
+            return self.insert_stale(index, hash, key, value, generation);
         }
         let Some((live, left)) = self.digests.known(&self.buckets, index, hash) else {
-            return self.insert_lost(index, hash, key, value, generation);
+            return self.insert_stale(index, hash, key, value, generation);
         };
         if let Some(_found) = self
             .buckets
@@ -148,9 +148,9 @@ impl<K: Drop, V: Drop, L: LruList, const TYPE: u8> BucketArray<K, V, L, TYPE> {
             (bucket_at self.old index) result left
             × (self.new ≡ slice_set self.old index left) }
     {
-        if is_lost(self.digests.live(index)) {
+        if is_stale(self.digests.live(index)) {
             if self.buckets.is_short() {
-                return self.upsert_lost(index, hash, key, value, generation);
+                return self.upsert_stale(index, hash, key, value, generation);
             }
         }
         self.heal(index);
@@ -169,7 +169,7 @@ impl<K: Drop, V: Drop, L: LruList, const TYPE: u8> BucketArray<K, V, L, TYPE> {
 
     /// Does what `upsert` does, if the bucket's digest is stale.
     #[inline(always)]
-    fn upsert_lost<G: Generation>(
+    fn upsert_stale<G: Generation>(
         &mut self,
         index: usize,
         hash: u64,
@@ -201,7 +201,7 @@ impl<K: Drop, V: Drop, L: LruList, const TYPE: u8> BucketArray<K, V, L, TYPE> {
     /// Does what `insert_absent` does, if the bucket's digest is stale or it is a bucket of an
     /// index.
     #[inline(always)]
-    fn insert_lost<G: Generation>(
+    fn insert_stale<G: Generation>(
         &mut self,
         index: usize,
         hash: u64,
@@ -225,7 +225,7 @@ impl<K: Drop, V: Drop, L: LruList, const TYPE: u8> BucketArray<K, V, L, TYPE> {
             return Err(NotPut::Present(key, value));
         }
         let placed = bucket.insert(hash, (key, value), generation);
-        self.settle(index);
+        self.refresh(index);
         match placed {
             Ok(_) => Ok(()),
             Err((key, value)) => Err(NotPut::Memory(key, value)),

@@ -176,7 +176,7 @@ impl<K: Eq + Drop, V: Drop, L: LruList + Drop, const TYPE: u8> Arrays<K, V, L, T
     {
         self.room_of(Side::Current);
         let stops = visitor.visit(self.bucket_of_mut(Side::Current, index), flag);
-        self.settle_on(Side::Current, index);
+        self.refresh_on(Side::Current, index);
         stops
     }
 
@@ -205,7 +205,7 @@ impl<K: Eq + Drop, V: Drop, L: LruList + Drop, const TYPE: u8> Arrays<K, V, L, T
     {
         self.room_of(Side::Current);
         let gone = retain_in(self.bucket_of_mut(Side::Current, index), keep, generation);
-        self.settle_on(Side::Current, index);
+        self.refresh_on(Side::Current, index);
         gone
     }
 }

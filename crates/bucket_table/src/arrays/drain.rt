@@ -257,6 +257,6 @@ fn ask_at<K: Drop, V: Drop, L: LruList, F: FnMut(&K, &mut V) -> bool, const TYPE
 {
     arrays.row_room();
     let taken = ask_slot(arrays.nth_mut(index), at, pick, false, &());
-    arrays.settle_nth(index);
+    arrays.refresh_nth(index);
     taken
 }

@@ -40,22 +40,22 @@ impl<K, V, L: LruList, const TYPE: u8> Arrays<K, V, L, TYPE> {
     }
 
     /// Rebuilds the digest of a bucket, if it is a current one. No bucket changes.
-    pub(crate) fn settle_on(&mut self, side: Side, index: usize)
+    pub(crate) fn refresh_on(&mut self, side: Side, index: usize)
         requires { index < length (buckets_on self.old side) }
         ensures { self.new ≡ self.old }
     {
         match side {
-            Side::Current => self.settle_current(index),
+            Side::Current => self.refresh_current(index),
             Side::Old => {}
         }
     }
 
     /// Rebuilds the digest of a current bucket. No bucket changes.
-    fn settle_current(&mut self, index: usize)
+    fn refresh_current(&mut self, index: usize)
         requires { index < length self.old.current }
         ensures { self.new ≡ self.old }
     {
-        current_in(&mut self.current).settle(index);
+        current_in(&mut self.current).refresh(index);
     }
 }
 
@@ -119,13 +119,13 @@ impl<K: Eq + Drop, V: Drop, L: LruList + Drop, const TYPE: u8> Arrays<K, V, L, T
         let start = unit * REHASHING_UNIT_LEN;
         let end = (start + REHASHING_UNIT_LEN).min(len);
         let success = self.relocate_range(hasher, start, end);
-        self.settle_unit(start, end);
+        self.refresh_unit(start, end);
         self.release_old(start);
         success
     }
 
     /// Rebuilds the digests of the homes of some old buckets. No bucket changes.
-    fn settle_unit(&mut self, start: usize, end: usize)
+    fn refresh_unit(&mut self, start: usize, end: usize)
         ensures { self.new ≡ self.old }
     {
         let from = self.old_len();
@@ -136,7 +136,7 @@ impl<K: Eq + Drop, V: Drop, L: LruList + Drop, const TYPE: u8> Arrays<K, V, L, T
         let (first, _) = from_index_to_range(from, to, start);
         let (_, last) = from_index_to_range(from, to, end - 1);
         for home in first..last {
-            self.settle_current(home);
+            self.refresh_current(home);
         }
     }
 

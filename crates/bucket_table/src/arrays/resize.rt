@@ -285,7 +285,7 @@ impl<K: Drop, V: Drop, L: LruList + Drop, const TYPE: u8> Arrays<K, V, L, TYPE> 
         if additional > self.maximum - self.minimum {
             return 0;
         }
-        self.settle(self.minimum + additional);
+        self.apply_minimum(self.minimum + additional);
         additional
     }
 
@@ -302,12 +302,12 @@ impl<K: Drop, V: Drop, L: LruList + Drop, const TYPE: u8> Arrays<K, V, L, TYPE> 
         if released > self.minimum {
             return 0;
         }
-        self.settle(self.minimum - released);
+        self.apply_minimum(self.minimum - released);
         released
     }
 
     /// Sets the minimum, then resizes. If allocation fails, the arrays stay.
-    fn settle(&mut self, minimum: usize)
+    fn apply_minimum(&mut self, minimum: usize)
         requires { minimum ≤ self.old.maximum }
         ensures settled { Resizes (with_minimum self.old minimum) self.new }
         ensures kept { Keeps (with_minimum self.old minimum) self.new }

@@ -118,11 +118,11 @@ impl<K, V, L: LruList, const TYPE: u8> Arrays<K, V, L, TYPE> {
 
     /// Refreshes the digest of a bucket of the row, if it is a current one. No bucket changes.
     #[inline(always)]
-    pub(crate) fn settle_nth(&mut self, index: usize)
+    pub(crate) fn refresh_nth(&mut self, index: usize)
         ensures { self.new ≡ self.old }
     {
         if index < self.len() {
-            self.settle_on(Side::Current, index);
+            self.refresh_on(Side::Current, index);
         }
     }
 

@@ -173,7 +173,7 @@ impl<K: Drop, V: Drop, L: LruList, const TYPE: u8> Arrays<K, V, L, TYPE> {
     {
         self.room_of(side);
         let earlier = self.bucket_of_mut(side, index).replace(at, hash, pair);
-        self.settle_on(side, index);
+        self.refresh_on(side, index);
         earlier
     }
 }

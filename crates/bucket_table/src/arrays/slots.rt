@@ -92,7 +92,7 @@ impl<K, V, L: LruList, const TYPE: u8> Arrays<K, V, L, TYPE> {
         let bucket = self.bucket_of_mut(side, index);
         bucket.mark_removed(at, generation);
         let left = bucket.len();
-        self.settle_on(side, index);
+        self.refresh_on(side, index);
         left
     }
 }
@@ -206,7 +206,7 @@ impl<K: Drop, V: Drop, L: LruList, const TYPE: u8> Arrays<K, V, L, TYPE> {
         let bucket = self.bucket_of_mut(side, index);
         let pair = bucket.remove(at);
         let left = bucket.len();
-        self.settle_on(side, index);
+        self.refresh_on(side, index);
         (pair, left)
     }
 }

@@ -198,7 +198,7 @@ impl<K: Eq + Drop, V: Drop, H: KeyHash<K>, L: LruList + Drop, const TYPE: u8> Ha
         self.arrays.room_of(side);
         let bucket = self.arrays.bucket_of_mut(side, index);
         let gone = put_absent_in(bucket, hash, key, value);
-        self.arrays.settle_on(side, index);
+        self.arrays.refresh_on(side, index);
         self.count = self.arrays.count_after(&self.count, some_len(&gone), 1);
         gone
     }
@@ -225,7 +225,7 @@ impl<K: Eq + Drop, V: Drop, H: KeyHash<K>, L: LruList + Drop, const TYPE: u8> Ha
         self.arrays.room_of(side);
         let bucket = self.arrays.bucket_of_mut(side, index);
         let done = put_in(bucket, hash, key, value);
-        self.arrays.settle_on(side, index);
+        self.arrays.refresh_on(side, index);
         self.count = self.arrays.count_after(&self.count, 0, put_len(&done));
         done
     }

@@ -129,7 +129,7 @@ impl<K: Eq + Drop, V: Drop, H: KeyHash<K>, L: LruList + Drop, const TYPE: u8> Ha
     {
         self.arrays.row_room();
         let gone = retain_each_in(self.arrays.nth_mut(index), keep, generation);
-        self.arrays.settle_nth(index);
+        self.arrays.refresh_nth(index);
         self.count = self.arrays.count_after(&self.count, gone, 0);
         gone
     }

@@ -177,7 +177,7 @@ impl<'a, K: Eq, V, H: KeyHash<K>, L: LruList, const TYPE: u8> LockedBucket<'a, K
         let table = &mut *self.table;
         table.arrays.room_of(side);
         let gone = table.arrays.bucket_of_mut(side, index).evict_lru_head();
-        table.arrays.settle_on(side, index);
+        table.arrays.refresh_on(side, index);
         table.arrays.count_removal(&mut table.count, &gone);
         gone
     }
@@ -250,7 +250,7 @@ impl<'a, K: Eq + Drop, V: Drop, H: KeyHash<K>, L: LruList, const TYPE: u8> Locke
             .arrays
             .bucket_of_mut(side, index)
             .insert(hash, pair, generation);
-        table.arrays.settle_on(side, index);
+        table.arrays.refresh_on(side, index);
         table.arrays.count_insertion(&mut table.count, &placed);
         placed
     }

@@ -9,7 +9,7 @@ invariant_of-self g c =
     let homes = spread_homes g.row.TYPE (λ (key : Bor g.row.K.Denot) (answer : ℕ). goal.F-post g c.args.hash_of.now key answer)
     _ _ _ _ c.self.invariant.0 _ _ c.spread.ensures.spreads in (
       subst (λ (n : ℕ). IsArray n c.self.inside.hash_offset c.self.inside.sample_size) (sym homes.1) c.self.invariant.0,
-      AreDigests-front _ _ _ c.args.start c.self.invariant.1 (c.is_lost_from.ensures c.if-not-is_lost_from.false) homes.1
+      AreDigests-front _ _ _ c.args.start c.self.invariant.1 (c.is_stale_from.ensures c.if-not-is_stale_from.false) homes.1
           c.spread.ensures.front,
     )
 

@@ -11,6 +11,6 @@ returns g c =
         retains = retained;
         slots = slots;
         marks = (gone_changed g.row.TYPE _ slots.0 _ _ slots.1).1;
-        new_is = c.settle_on.ensures;
+        new_is = c.refresh_on.ensures;
       };
     }

@@ -3,13 +3,14 @@ use Rattle.bucket_table.proofs.Map.LockedSteps.{put_there}
 use Rattle.bucket_table.proofs.arrays.Arrays.take_slot.Goals as goal
 
 pub returns-clause-arrays : goal.returns-clause-arrays
-returns-clause-arrays g c = rw (c.settle_on.ensures, c.remove-pair.ensures.slots, c.bucket_of_mut-bucket.ensures.bucket) refl
+returns-clause-arrays g c = rw (c.refresh_on.ensures, c.remove-pair.ensures.slots, c.bucket_of_mut-bucket.ensures.bucket) refl
 
 pub returns-clause-pairs_ahead : goal.returns-clause-pairs_ahead
 returns-clause-pairs_ahead g c =
-    rw (c.settle_on.ensures, put_there c.args.self.now c.args.side c.args.index c.remove-pair.new.self c.requires.within)
+    rw (c.refresh_on.ensures, put_there c.args.self.now c.args.side c.args.index c.remove-pair.new.self c.requires.within)
     (c.remove-pair.ensures.pairs_ahead ∙ ap (λ b. pairs_ahead b c.args.at.now) c.bucket_of_mut-bucket.ensures.bucket)
 
 pub returns-clause-left : goal.returns-clause-left
 returns-clause-left g c =
-    rw (c.settle_on.ensures, put_there c.args.self.now c.args.side c.args.index c.remove-pair.new.self c.requires.within) c.len-left.ensures
+    rw (c.refresh_on.ensures, put_there c.args.self.now c.args.side c.args.index c.remove-pair.new.self c.requires.within)
+    c.len-left.ensures

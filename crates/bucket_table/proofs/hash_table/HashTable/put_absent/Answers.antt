@@ -16,15 +16,15 @@ invariant_of-self g c =
     (rw (← c.self.view_is) at c.requires.locked) c.put_absent_in-gone.result c.put_absent_in-gone.new.bucket g.L.LruList.KEEPS c.args.key
     c.args.value c.args.hash (rw (← c.self.view_is) at c.requires.own_hash) (rw (← c.self.view_is) at c.requires.home)
     (rw (← c.self.view_is) at c.requires.absent) c.requires.cache e.goes e.put in
-    counted_after c.self.invariant (rw c.settle_on.ensures x.one_map) c.some_len.result 1
-    (rw c.settle_on.ensures (len_put_absent g.row.TYPE c.self.inside.hasher c.self.inside.arrays
+    counted_after c.self.invariant (rw c.refresh_on.ensures x.one_map) c.some_len.result 1
+    (rw c.refresh_on.ensures (len_put_absent g.row.TYPE c.self.inside.hasher c.self.inside.arrays
     (arrays_with c.self.inside.arrays c.args.side c.args.index c.put_absent_in-gone.new.bucket) g.K.PartialEq.eq c.args.key c.args.value
     c.put_absent_in-gone.result _ c.some_len.ensures x.map)) c.count_after-self-inside.ensures
 
 pub returns-clause-map : goal.returns-clause-map
 returns-clause-map g c =
     let e = rw c.bucket_of_mut-bucket.ensures.bucket at c.put_absent_in-gone.ensures in
-    rw c.settle_on.ensures (subst (λ (t : TableView g.row.K.Denot g.row.V.Denot g.row.H.Denot). Puts g.K.PartialEq.eq c.args.key
+    rw c.refresh_on.ensures (subst (λ (t : TableView g.row.K.Denot g.row.V.Denot g.row.H.Denot). Puts g.K.PartialEq.eq c.args.key
     c.args.value (state_of g.row.TYPE t) (Ok c.put_absent_in-gone.result) (state_of g.row.TYPE (record {
       hasher = c.self.inside.hasher;
       arrays = arrays_with c.self.inside.arrays c.args.side c.args.index c.put_absent_in-gone.new.bucket;
@@ -38,9 +38,9 @@ returns-clause-goes g c = rw (← c.self.view_is, ← c.bucket_of_mut-bucket.ens
 
 pub returns-clause-put : goal.returns-clause-put
 returns-clause-put g c =
-    rw (c.settle_on.ensures, ← c.self.view_is, ← c.bucket_of_mut-bucket.ensures.bucket, ← c.put_absent_in-gone.ensures.put) refl
+    rw (c.refresh_on.ensures, ← c.self.view_is, ← c.bucket_of_mut-bucket.ensures.bucket, ← c.put_absent_in-gone.ensures.put) refl
 
-pub settle_on-requires : goal.settle_on-requires
-settle_on-requires g c =
+pub refresh_on-requires : goal.refresh_on-requires
+refresh_on-requires g c =
     let within = rw (← c.self.view_is) at c.requires.locked.within in
     (omega arith, rw (buckets_on-arrays_with c.self.inside.arrays c.args.side c.args.index _) (simp length-set within))

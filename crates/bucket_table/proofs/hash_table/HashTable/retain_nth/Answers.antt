@@ -8,10 +8,10 @@ invariant_of-self g c =
     let within = rw (← c.self.view_is) at c.requires.within in
     let left = rw c.nth_mut.ensures.bucket at c.retain_each_in-gone.ensures.left in
     let r = rw c.nth_mut.ensures.bucket at c.retain_each_in-gone.ensures.retained in
-    counted_after c.self.invariant (rw c.settle_nth.ensures (one_map_losing g.met.K.Eq.laws (g.H.KeyHash.hash_of c.self.inside.hasher)
+    counted_after c.self.invariant (rw c.refresh_nth.ensures (one_map_losing g.met.K.Eq.laws (g.H.KeyHash.hash_of c.self.inside.hasher)
     c.self.invariant.one_map within (rw (← c.self.view_is) at c.requires.some) (gone_changed g.row.TYPE _ left.0 _ _ left.1).0))
     c.retain_each_in-gone.result 0
-    (rw c.settle_nth.ensures (len_in_row c.self.inside.arrays c.args.index c.retain_each_in-gone.new.bucket _ within r.counted))
+    (rw c.refresh_nth.ensures (len_in_row c.self.inside.arrays c.args.index c.retain_each_in-gone.new.bucket _ within r.counted))
     c.count_after-self-inside.ensures
 
 pub returns-clause-retained : goal.returns-clause-retained
@@ -19,5 +19,5 @@ returns-clause-retained g c = rw (← c.self.view_is) (record {
   left = c.retain_each_in-gone.new.bucket;
   retains = rw c.nth_mut.ensures.bucket at c.retain_each_in-gone.ensures.retained;
   slots = rw c.nth_mut.ensures.bucket at c.retain_each_in-gone.ensures.left;
-  new_is = c.settle_nth.ensures;
+  new_is = c.refresh_nth.ensures;
 })

@@ -13,8 +13,8 @@ invariant_of-table g c =
     let e = rw c.bucket_of_mut.ensures.bucket at c.evict_lru_head-gone.ensures in
     let x = evicted g.met.K.Eq.laws g.H.KeyHash.hash_of g.row.TYPE o.side o.index c.table.invariant.one_map (changeable_locked _ _ _ locked)
     c.evict_lru_head-gone.result c.evict_lru_head-gone.new.self e.pair e.slots e.unchanged in
-    counted_after c.table.invariant (rw c.settle_on.ensures x.one_map) _ 0
-    (rw c.settle_on.ensures (len_evicted _ _ c.evict_lru_head-gone.result _ refl x.map
+    counted_after c.table.invariant (rw c.refresh_on.ensures x.one_map) _ 0
+    (rw c.refresh_on.ensures (len_evicted _ _ c.evict_lru_head-gone.result _ refl x.map
     (len_unevicted c.table.inside.arrays o.side o.index _ c.evict_lru_head-gone.result e.unchanged))) c.count_removal.ensures
 
 pub invariant_of-self : goal.invariant_of-self
@@ -23,7 +23,7 @@ invariant_of-self g c =
     let locked = rw (← c.table.view_is) at o.locked in
     let e = rw c.bucket_of_mut.ensures.bucket at c.evict_lru_head-gone.ensures in
     record {
-      locked = rw c.settle_on.ensures ((evicted g.met.K.Eq.laws g.H.KeyHash.hash_of g.row.TYPE o.side o.index c.table.invariant.one_map
+      locked = rw c.refresh_on.ensures ((evicted g.met.K.Eq.laws g.H.KeyHash.hash_of g.row.TYPE o.side o.index c.table.invariant.one_map
           (changeable_locked _ _ _ locked) c.evict_lru_head-gone.result c.evict_lru_head-gone.new.self e.pair e.slots
           e.unchanged).locked locked);
     }
@@ -33,7 +33,7 @@ returns-clause-map g c =
     let o = c.args.self.now in
     let locked = rw (← c.table.view_is) at o.locked in
     let e = rw c.bucket_of_mut.ensures.bucket at c.evict_lru_head-gone.ensures in
-    rw (c.settle_on.ensures, ← c.table.view_is) (evicted g.met.K.Eq.laws g.H.KeyHash.hash_of g.row.TYPE o.side o.index
+    rw (c.refresh_on.ensures, ← c.table.view_is) (evicted g.met.K.Eq.laws g.H.KeyHash.hash_of g.row.TYPE o.side o.index
     c.table.invariant.one_map
     (changeable_locked _ _ _ locked) c.evict_lru_head-gone.result c.evict_lru_head-gone.new.self e.pair e.slots e.unchanged).map
 
@@ -45,7 +45,7 @@ returns-clause-changed g c =
       same_table = refl;
       same_side = refl;
       same_index = refl;
-      table = rw (c.settle_on.ensures, ← c.table.view_is) (with_same c.table.inside.hasher c.table.inside.arrays _ _
+      table = rw (c.refresh_on.ensures, ← c.table.view_is) (with_same c.table.inside.hasher c.table.inside.arrays _ _
           c.evict_lru_head-gone.new.self _ is);
     }
 
@@ -54,8 +54,8 @@ returns-clause-answer g c =
     let e = rw c.bucket_of_mut.ensures.bucket at c.evict_lru_head-gone.ensures in
     rw (← c.table.view_is) (goes _ c.evict_lru_head-gone.new.self c.evict_lru_head-gone.result e.none e.pair e.slots e.unchanged).0
 
-pub settle_on-requires : goal.settle_on-requires
-settle_on-requires g c =
+pub refresh_on-requires : goal.refresh_on-requires
+refresh_on-requires g c =
     let o = c.args.self.now in
     let within = rw (← c.table.view_is) at o.locked.within in
     (omega arith, rw (buckets_on-arrays_with c.table.inside.arrays o.side o.index _) (simp length-set within))

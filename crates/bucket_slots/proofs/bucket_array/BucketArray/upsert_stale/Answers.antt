@@ -3,7 +3,7 @@ use Rattle.bucket_slots.specs.ArrayView.{bucket_at}
 use Rattle.bucket_slots.proofs.Digests.{null_at}
 use Rattle.bucket_slots.proofs.PairsAfter.{live_from_pair}
 use Rattle.bucket_slots.proofs.SearchedPairs.{found_pair}
-use Rattle.bucket_slots.proofs.bucket_array.BucketArray.upsert_lost.Goals as goal
+use Rattle.bucket_slots.proofs.bucket_array.BucketArray.upsert_stale.Goals as goal
 
 pub entry_mut-held-requires : goal.entry_mut-held-requires
 entry_mut-held-requires g c =

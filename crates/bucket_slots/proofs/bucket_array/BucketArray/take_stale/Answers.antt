@@ -2,7 +2,7 @@ use Rattle.bucket_slots.proofs.Words.{ap, length, pairs_in, rules, set, set-get_
 use Rattle.bucket_slots.proofs.PairsAfter.{live_from_pair}
 use Rattle.bucket_slots.proofs.Digests.{null_at}
 use Rattle.bucket_slots.proofs.SearchedPairs.{found_pair}
-use Rattle.bucket_slots.proofs.bucket_array.BucketArray.take_lost.Goals as goal
+use Rattle.bucket_slots.proofs.bucket_array.BucketArray.take_stale.Goals as goal
 
 pub returns-then-not-is_valid-clause-taken : goal.returns-then-not-is_valid-clause-taken
 returns-then-not-is_valid-clause-taken g c =
@@ -25,6 +25,6 @@ returns-clause-taken g c =
       at = c.get_entry_ptr_by-at.result;
       found = rw lent at found;
       taken = removed.pair;
-      changed = c.settle.ensures ∙ ap (set c.args.self.now c.args.index) removed.slots;
+      changed = c.refresh.ensures ∙ ap (set c.args.self.now c.args.index) removed.slots;
       left_is = c.len-left.ensures ∙ ap (λ b. length (pairs_in b)) removed.slots;
     }

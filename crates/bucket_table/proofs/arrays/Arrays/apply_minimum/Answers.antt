@@ -1,5 +1,5 @@
 use Rattle.bucket_table.proofs.Resize.Settling.{placed_with, resizes}
-use Rattle.bucket_table.proofs.arrays.Arrays.settle.Goals as goal
+use Rattle.bucket_table.proofs.arrays.Arrays.apply_minimum.Goals as goal
 
 pub returns-clause-settled : goal.returns-clause-settled
 returns-clause-settled g c = rw (← c.self.view_is) (resizes _ _ c.try_resize.result c.try_resize.ensures.resized)

@@ -1,5 +1,5 @@
 use Rattle.bucket_table.proofs.Words.{◌≡◌}
-use Rattle.bucket_table.proofs.arrays.Arrays.settle_unit.Given as goal
+use Rattle.bucket_table.proofs.arrays.Arrays.refresh_unit.Given as goal
 
 abbrev pub invariant-loop-home : goal.invariant-loop-home
 invariant-loop-home g l = l.self ≡ l.fn.self

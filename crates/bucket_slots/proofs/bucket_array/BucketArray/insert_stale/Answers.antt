@@ -1,6 +1,6 @@
 use Rattle.bucket_slots.proofs.Words.{ap, set, set-get_or, ◌∙◌}
 use Rattle.bucket_slots.proofs.Digests.{null_at}
-use Rattle.bucket_slots.proofs.bucket_array.BucketArray.insert_lost.Goals as goal
+use Rattle.bucket_slots.proofs.bucket_array.BucketArray.insert_stale.Goals as goal
 
 pub returns-in-Ok-clause-answer : goal.returns-in-Ok-clause-answer
 returns-in-Ok-clause-answer g c =
@@ -22,9 +22,9 @@ returns-then-is_valid-clause-unchanged g c = rw c.bucket_mut-bucket.ensures.buck
 
 pub returns-in-Ok-clause-put : goal.returns-in-Ok-clause-put
 returns-in-Ok-clause-put g c =
-    c.settle.ensures ∙ ap (set c.args.self.now c.args.index) (rw c.bucket_mut-bucket.ensures.bucket at c.in-Ok.ensures.slots)
+    c.refresh.ensures ∙ ap (set c.args.self.now c.args.index) (rw c.bucket_mut-bucket.ensures.bucket at c.in-Ok.ensures.slots)
 
 pub returns-clause-unchanged : goal.returns-clause-unchanged
 returns-clause-unchanged g c =
-    c.settle.ensures ∙ ap (set c.args.self.now c.args.index) c.in-Err.ensures.refused.unchanged
+    c.refresh.ensures ∙ ap (set c.args.self.now c.args.index) c.in-Err.ensures.refused.unchanged
     ∙ rw c.bucket_mut-bucket.ensures.bucket (set-get_or c.args.self.now c.args.index _)
