@@ -478,8 +478,8 @@ template <class Shape, class Calls> class nodes : public holder {
         return erase_listed(doomed);
     }
 
-    /// Erases everything; the seed stays. A map or a set keeps its slots if they are at most 64 and no resize is under way, unless
-    /// shrink_to_fit has set its minimum to 0; otherwise, and in a cache, the slots are freed. Allocates nothing. O(n).
+    /// Erases everything; the seed stays. A map or a set keeps its slots, which shrink_to_fit frees; a cache frees them. Allocates
+    /// nothing. O(n).
     void clear() noexcept {
         node_type *all = list();
         size_ = 0;
@@ -759,8 +759,7 @@ template <class K> class words : public holder {
         return erase_listed(doomed);
     }
 
-    /// Erases everything; the seed stays. The slots stay if they are at most 64 and no resize is under way, unless shrink_to_fit has set
-    /// the minimum to 0; otherwise they are freed. Allocates nothing. O(n).
+    /// Erases everything; the seed stays. The slots stay too; shrink_to_fit frees them. Allocates nothing. O(n).
     void clear() noexcept {
         static_cast<void>(bucket_clear(&handle_));
         size_ = 0;

@@ -12,11 +12,11 @@ prepare_refusing trial_refused_blocks
 # The allocation of the first block is the first whose failure changes an answer.
 first=1
 run_refusing "$first"
-until [ "$is_refused" = 0 ] || grep -q refused "$folder/output"; do
+until [ "$is_refused" = 0 ] || grep -q failed "$folder/output"; do
     first=$((first + 1))
     run_refusing "$first"
 done
-printf '%s\n' "40 refused" "36 granted" "37 granted" "40 granted" "40 granted" "41 granted" \
+printf '%s\n' "40 failed" "36 reserved" "37 reserved" "40 reserved" "40 reserved" "41 reserved" \
     >"$folder/expected"
 diff "$folder/expected" "$folder/output" >"$folder/log" || fail "wrong answers when the first block fails"
 
@@ -24,7 +24,7 @@ diff "$folder/expected" "$folder/output" >"$folder/log" || fail "wrong answers w
 # third one fails in the call for 41.
 run_refusing "$((first + 1)),$((first + 2)),$((first + 4))"
 [ "$is_refused" = 3 ] || fail "$is_refused of three allocations were made and failed"
-printf '%s\n' "40 refused" "36 granted" "37 refused" "40 granted" "40 granted" "41 refused" \
+printf '%s\n' "40 failed" "36 reserved" "37 failed" "40 reserved" "40 reserved" "41 failed" \
     >"$folder/expected"
 diff "$folder/expected" "$folder/output" >"$folder/log" || fail "wrong answers when the second block fails"
 

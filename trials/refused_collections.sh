@@ -15,7 +15,7 @@ least_refused=1
 # The number of runs, and what extracts from a line how many pairs weren't inserted, and how many copies
 # weren't made.
 runs=8
-count='s/^.* \([0-9][0-9]*\) refused, right$/\1/p'
+count='s/^.* \([0-9][0-9]*\) failed, right$/\1/p'
 copies_count='s/^.* \([0-9][0-9]*\) not copied, .*$/\1/p'
 
 requests=0

@@ -67,7 +67,7 @@ def loops(kind, keys, asked, absent):
 
     return {
         "[]= new": fill,
-        "[]= there": overwrite,
+        "[]= present": overwrite,
         "[]": subscript,
         "get": get,
         "get absent": get_absent,

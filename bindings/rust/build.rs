@@ -26,7 +26,7 @@ fn main() {
 /// Returns the folder whose libbucket.a is linked, or a message that says what to do.
 fn folder() -> Result<PathBuf, String> {
     if env::var("CARGO_CFG_TARGET_POINTER_WIDTH").as_deref() != Ok("64") {
-        return Err("bucket is a library for 64 bits, and the target has others".to_string());
+        return Err("bucket supports 64-bit targets only".to_string());
     }
     if let Some(folder) = env::var_os("BUCKET_LIB_DIR").map(PathBuf::from) {
         return match has_library(&folder) {

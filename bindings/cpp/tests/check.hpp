@@ -39,24 +39,40 @@ struct story {
     void (*play)();
 };
 
-// Runs all stories; returns the status of the program.
-template <std::size_t N> int play(const story (&stories)[N]) {
+// How many stories were played.
+inline std::size_t played = 0;
+
+// Runs all stories of a table, and prints which had a failed check, and what they were played with.
+template <std::size_t N> void play_with(const story (&stories)[N], const std::string &with) {
     for (const story &each : stories) {
         long before = failed;
         each.play();
+        played++;
         if (failed > before) {
-            std::fprintf(stderr, "wrong: %s\n", each.says);
+            std::fprintf(stderr, "wrong: %s%s\n", each.says, with.c_str());
         }
     }
-    std::printf("%zu stories, %ld checks, %ld failed\n", N, made, failed);
+}
+
+// Runs all stories of the last table; returns the status of the program.
+template <std::size_t N> int play(const story (&stories)[N]) {
+    play_with(stories, "");
+    std::printf("%zu stories, %ld checks, %ld failed\n", played, made, failed);
     return failed > 0 ? 1 : 0;
+}
+
+// The name of a type, as g++ and clang++ write it.
+template <class T> std::string name_of() {
+    const std::string written = __PRETTY_FUNCTION__;
+    const std::size_t from = written.find("T = ") + 4;
+    return written.substr(from, written.find_first_of(";]", from) - from);
 }
 
 struct thrown : std::runtime_error {
     thrown() : std::runtime_error("thrown by a test") {}
 };
 
-// A value that is counted, knows its own address, and throws when told to. After a move from it, it is -1.
+// A value that is counted, stores its own address, and throws on demand. After a move from it, it is -1.
 class counted {
   public:
     static inline long alive = 0;
@@ -81,13 +97,13 @@ class counted {
         return *this;
     }
     ~counted() {
-        check(self_ == this, __FILE__, __LINE__, "a value is destroyed where it stands");
+        check(self_ == this, __FILE__, __LINE__, "a value is destroyed at its own address");
         self_ = nullptr;
         alive--;
     }
 
     int value() const {
-        check(self_ == this, __FILE__, __LINE__, "a value is read where it stands");
+        check(self_ == this, __FILE__, __LINE__, "a value is read at its own address");
         return value_;
     }
     friend bool operator==(const counted &a, const counted &b) { return a.value() == b.value(); }

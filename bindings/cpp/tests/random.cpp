@@ -31,7 +31,7 @@ template <class K> void check_equal(const bucket::map<K, counted> &map, const st
     CHECK(seen == beside.size() && map.size() == seen && counted::alive == static_cast<long>(seen));
 }
 
-// Takes a pair out, may change its key, and may insert the pair again. Returns whether there was one.
+// Extracts a pair, may change its key, and may insert the pair again. Returns whether there was one.
 template <class K> bool take_out(chance &by, bucket::map<K, counted> &map, std::unordered_map<K, int> &beside, const K &key) {
     auto out = map.extract(key);
     auto other = beside.extract(key);
@@ -174,9 +174,9 @@ void caches_of_texts() { cache_beside_std<std::string>(); }
 void all_are_destroyed() { CHECK(counted::alive == 0); }
 
 const tests::story stories[] = {
-    {"a map of words beside std's", maps_of_words},   {"a map of texts beside std's", maps_of_texts},
-    {"a set of words beside std's", sets_of_words},   {"a set of texts beside std's", sets_of_texts},
-    {"a cache of words hands out what goes", caches_of_words}, {"a cache of texts hands out what goes", caches_of_texts},
+    {"a map of words against std's", maps_of_words},   {"a map of texts against std's", maps_of_texts},
+    {"a set of words against std's", sets_of_words},   {"a set of texts against std's", sets_of_texts},
+    {"a cache of words returns evicted pairs", caches_of_words}, {"a cache of texts returns evicted pairs", caches_of_texts},
     {"all values are destroyed", all_are_destroyed},
 };
 

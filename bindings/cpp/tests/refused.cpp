@@ -13,11 +13,11 @@ using tests::key;
 
 namespace {
 
-// How many allocations are granted before one fails; -1: all are.
+// How many allocations succeed before one fails; -1: all do.
 long granted = -1;
 long held = 0;
 long asked = 0;
-// How many are granted before exactly one fails; -1: none fails.
+// How many succeed before exactly one fails; -1: none fails.
 long before_one = -1;
 
 bool may() noexcept {
@@ -162,7 +162,7 @@ template <class K> void each_insertion() {
     refuse_each_on_maps<K>([](given &to) { return to.map.reserve(10000), true; });
 }
 
-// A pair that was taken out stays with the caller, with the key that it has by then.
+// An extracted pair stays with the caller, with its present key.
 template <class K> void a_node() {
     struct two {
         bucket::map<K, owned> to;
@@ -454,15 +454,15 @@ void caches() {
 const tests::story stories[] = {
     {"an insertion into a map of words that fails changes nothing", insertions_of_words},
     {"an insertion into a map of texts that fails changes nothing", insertions_of_texts},
-    {"a pair that was taken out stays with the caller if it can't be inserted", insertions_of_nodes},
-    {"a constructor of a range or with room that fails takes nothing", constructors},
-    {"a key that is there, an iteration, an erasure, a move take no memory", a_key_that_is_there_takes_no_memory},
-    {"a merge that fails loses no pair", merges},
+    {"an extracted pair stays with the caller if it can't be inserted", insertions_of_nodes},
+    {"a failing constructor of a range or with room leaks nothing", constructors},
+    {"a present key, an iteration, an erasure and a move allocate nothing", a_key_that_is_there_takes_no_memory},
+    {"a failing merge loses no pair", merges},
     {"a copy or an assignment that fails changes nothing", copies},
     {"a call of a set that fails changes nothing", sets},
     {"a put that fails changes nothing", caches},
-    {"a copy asks for no more than the filling did", copies_of_many},
-    {"a range with one key many times needs no more than its pair", a_range_finds_its_room},
+    {"a copy allocates no more than the filling did", copies_of_many},
+    {"a range with one key many times allocates for one pair only", a_range_finds_its_room},
 };
 
 } // namespace

@@ -379,7 +379,7 @@ void results_where_a_constructor_inserts_its_own_key() {
     };
     CHECK(!all.try_emplace("k", 1).second && all.at("k").value() == 3 && all.size() == 1);
 
-    // V() calls back; the assigned value goes to the pair that stays.
+    // V() calls back; the value is assigned to the pair that stays.
     all.clear();
     calling::next = [&] { all.emplace(std::make_pair("k", 2)); };
     CHECK(all["k"].value() == 2 && (all["k"] = 7).value() == 7 && all.size() == 1);
@@ -422,14 +422,14 @@ void a_cached_value_may_call_its_cache() {
 
 const tests::story stories[] = {
     {"a call whose value throws changes nothing", a_call_that_throws_changes_nothing},
-    {"a key that was given away comes back if the value throws", a_key_that_was_given_away_comes_back},
-    {"a call that throws leaves no slot taken", a_call_that_throws_leaves_no_slot_taken},
+    {"a moved key is returned if the value throws", a_key_that_was_given_away_comes_back},
+    {"a call that throws leaves no slot occupied", a_call_that_throws_leaves_no_slot_taken},
     {"a put that throws evicts nothing", a_put_that_throws_evicts_nothing},
     {"a predicate that throws erases nothing", a_predicate_that_throws_erases_nothing},
     {"a destructor may call its container", a_destructor_may_call_its_container},
     {"a constructor may call its container", a_constructor_may_call_its_container},
     {"a constructor may insert its own key by each call", a_constructor_may_insert_its_own_key_by_each_call},
-    {"what calls return where a constructor inserts its own key", results_where_a_constructor_inserts_its_own_key},
+    {"what calls return if a constructor inserts its own key", results_where_a_constructor_inserts_its_own_key},
     {"a constructor may insert its own key and erase it, or move the map", a_constructor_may_take_its_key_away},
     {"a cached value may call its cache as it is destroyed", a_cached_value_may_call_its_cache},
 };

@@ -3,9 +3,9 @@
     @memo(maxsize=1000)
     def collatz(number): ..
 
-A call whose arguments are one int, str or bytes has it as its key; other arguments are told by their repr, so
-they have to be ones whose repr says all. Run as a program it finds the longest Collatz run below a number, and
-shows that the memory stays bounded.
+A call whose arguments are one int, str or bytes has it as its key; the key of other arguments is their repr,
+which must distinguish them. Run as a program it finds the longest Collatz run below a number, and shows that
+the memory stays bounded.
 """
 
 import functools
@@ -24,7 +24,7 @@ def memo(maxsize=128):
         def remembered(*arguments, **named):
             key = arguments[0] if len(arguments) == 1 and not named else None
             if type(key) not in (int, str, bytes) or type(key) is int and not -(1 << 63) <= key < 1 << 64:
-                # The front keeps such keys apart from strs that are arguments, but for one that looks the same.
+                # The prefix distinguishes such keys from str arguments, except for one that looks the same.
                 key = f"\0{arguments!r}{sorted(named.items())!r}"
             answer = answers.get(key, NOTHING)
             if answer is NOTHING:
@@ -51,7 +51,7 @@ def main():
     longest = max(range(1, below), key=steps)
     info = steps.cache_info()
     print(f"{longest} takes {steps(longest)} steps, the most below {below}")
-    print(f"{info.hits} answers were remembered, {info.misses} weren't, and {info.currsize} of {info.maxsize} are kept")
+    print(f"{info.hits} results were cached, {info.misses} weren't, and {info.currsize} of {info.maxsize} are kept")
 
 
 if __name__ == "__main__":

@@ -4,7 +4,7 @@
  * evict. */
 #include "collection.h"
 
-/* ---- The order of use ---- */
+/* ---- The LRU order ---- */
 
 void order_begin(Cache *cache) {
     cache->order.before = cache->order.after = &cache->order;
@@ -67,7 +67,7 @@ static int cache_init(PyObject *self, PyObject *args, PyObject *kwargs) {
         return -1;
     }
     if (maxsize < 0) {
-        PyErr_SetString(PyExc_ValueError, "maxsize isn't negative");
+        PyErr_SetString(PyExc_ValueError, "maxsize must not be negative");
         return -1;
     }
     Cache *cache = (Cache *)self;
@@ -133,7 +133,7 @@ PyObject *cache_made(PyObject *module, PyObject *args) {
     }
     PyObject *made = PyObject_CallMethod((PyObject *)type, "__new__", "O", type);
     if (made != NULL && (!is_cache(state, made) || maxsize < 0 || words < 0 || hashed < 0)) {
-        PyErr_SetString(PyExc_TypeError, "a type below Cache and sizes are wanted");
+        PyErr_SetString(PyExc_TypeError, "a subclass of Cache and sizes are required");
         Py_CLEAR(made);
     }
     if (made != NULL) {
@@ -223,11 +223,11 @@ static PyObject *cache_info(PyObject *self, PyObject *unused) {
 }
 
 static PyGetSetDef cache_attributes[] = {
-    {"maxsize", cache_maxsize, NULL, "How many pairs there may be.", NULL},
-    {"currsize", cache_currsize, NULL, "How many pairs there are.", NULL},
-    {"hits", cache_hits, NULL, "How many look-ups found their key.", NULL},
-    {"misses", cache_misses, NULL, "How many look-ups didn't.", NULL},
-    {"capacity", cache_capacity, NULL, "How many slots the library has taken.", NULL},
+    {"maxsize", cache_maxsize, NULL, "The maximum number of pairs.", NULL},
+    {"currsize", cache_currsize, NULL, "The number of pairs.", NULL},
+    {"hits", cache_hits, NULL, "The number of look-ups that found their key.", NULL},
+    {"misses", cache_misses, NULL, "The number of look-ups that didn't.", NULL},
+    {"capacity", cache_capacity, NULL, "The number of slots that the library has allocated.", NULL},
     {NULL, NULL, NULL, NULL, NULL},
 };
 
@@ -237,25 +237,25 @@ static PyMethodDef cache_methods[] = {
     {"peek", (PyCFunction)(void (*)(void))cache_peek, METH_FASTCALL,
      "peek($self, key, default=None, /)\n--\n\nThe value at a key, or the default. Touches and counts nothing. O(1)."},
     {"put", (PyCFunction)(void (*)(void))cache_put_call, METH_FASTCALL,
-     "put($self, key, value, /)\n--\n\nPuts a pair, as []= does, and returns the pair that went for it, or None. O(1)."},
+     "put($self, key, value, /)\n--\n\nPuts a pair, as []= does, and returns the evicted pair, or None. O(1)."},
     {"setdefault", (PyCFunction)(void (*)(void))pairs_setdefault, METH_FASTCALL,
-     "setdefault($self, key, default=None, /)\n--\n\nThe value at a key, as of get; or the default, which is put there. O(1)."},
+     "setdefault($self, key, default=None, /)\n--\n\nThe value at a key, as of get; if the key is absent, inserts the default. O(1)."},
     {"pop", (PyCFunction)(void (*)(void))pairs_pop, METH_FASTCALL,
      "pop(key[, default])\n\nRemoves a pair, and returns its value, or the default; else KeyError. O(1)."},
     {"popitem", pairs_popitem, METH_NOARGS,
      "popitem($self, /)\n--\n\nRemoves the pair touched longest ago, and returns it; KeyError if there is none. O(1)."},
     {"update", (PyCFunction)(void (*)(void))pairs_update, METH_VARARGS | METH_KEYWORDS,
      "update([other], **pairs)\n\nPuts the pairs of a mapping or of an iterable of pairs, then the keywords'."},
-    {"clear", cache_clear, METH_NOARGS, "clear($self, /)\n--\n\nRemoves all pairs, and counts anew. O(n)."},
+    {"clear", cache_clear, METH_NOARGS, "clear($self, /)\n--\n\nRemoves all pairs, and resets the counters. O(n)."},
     {"copy", cache_copy, METH_NOARGS,
-     "copy($self, /)\n--\n\nA Cache of the same pairs in the same order, which counts anew. O(n)."},
+     "copy($self, /)\n--\n\nA Cache of the same pairs in the same order, with new counters. O(n)."},
     {"keys", pairs_keys, METH_NOARGS, "keys($self, /)\n--\n\nA live view of the keys."},
     {"values", pairs_values, METH_NOARGS, "values($self, /)\n--\n\nA live view of the values."},
     {"items", pairs_items, METH_NOARGS, "items($self, /)\n--\n\nA live view of the pairs."},
     {"cache_info", cache_info, METH_NOARGS,
      "cache_info($self, /)\n--\n\nhits, misses, maxsize and currsize, as of functools.lru_cache."},
     {"__reduce__", cache_reduce, METH_NOARGS, "For copies and pickles."},
-    {"__sizeof__", collection_sizeof, METH_NOARGS, "About how many bytes it takes, without keys and values."},
+    {"__sizeof__", collection_sizeof, METH_NOARGS, "The approximate size in bytes, without keys and values."},
     {"__class_getitem__", Py_GenericAlias, METH_O | METH_CLASS, "Cache[str, int], for type hints."},
     {NULL, NULL, 0, NULL},
 };
@@ -266,8 +266,8 @@ static PyMemberDef cache_members[] = {
 };
 
 static PyType_Slot cache_slots[] = {
-    {Py_tp_doc, "Cache(maxsize=128)\n\nA mapping of at most `maxsize` pairs: a further one lets the pair go that was touched longest\n"
-                "ago. [], get, setdefault and what puts a pair touch it; peek, in, views and iterations don't. An iteration gives the\n"
+    {Py_tp_doc, "Cache(maxsize=128)\n\nA mapping of at most `maxsize` pairs: a further one evicts the pair that was touched longest\n"
+                "ago. [], get, setdefault and insertions touch a pair; peek, in, views and iterations don't. An iteration yields the\n"
                 "pair touched longest ago first, from a copy of the order."},
     {Py_tp_new, cache_new},
     {Py_tp_init, cache_init},

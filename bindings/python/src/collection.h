@@ -139,7 +139,7 @@ void table_exchange(Table *left, Table *right);
 /* How many keys of each kind an object yields, as far as that is known in advance. */
 typedef struct Coming {
     size_t lens[KINDS];
-    bool is_sure; /* they are keys, and each comes once */
+    bool is_sure; /* they are keys, and each occurs once */
 } Coming;
 
 /* Known for a collection or its view, a dict, set, list or tuple; 0 for another object, and for few keys. The keys are the

@@ -14,7 +14,7 @@ typedef struct Iterator {
 PyObject *iterator_new(Table *table, Gives gives) {
     PyTypeObject *type = table->state->iterator;
     if (type == NULL) {
-        PyErr_SetString(PyExc_RuntimeError, "the module bucket is gone");
+        PyErr_SetString(PyExc_RuntimeError, "the module bucket is no longer loaded");
         return NULL;
     }
     Iterator *iterator = PyObject_GC_New(Iterator, type);
@@ -139,8 +139,8 @@ static PyObject *iterator_reduce(PyObject *self, PyObject *unused) {
 }
 
 static PyMethodDef iterator_methods[] = {
-    {"__length_hint__", iterator_length_hint, METH_NOARGS, "How many are left; 0 once the size has changed."},
-    {"__reduce__", iterator_reduce, METH_NOARGS, "For pickles: an iterator of a list of what is left."},
+    {"__length_hint__", iterator_length_hint, METH_NOARGS, "The number of remaining items; 0 once the size has changed."},
+    {"__reduce__", iterator_reduce, METH_NOARGS, "For pickles: an iterator of a list of the remaining items."},
     {NULL, NULL, 0, NULL},
 };
 

@@ -108,13 +108,13 @@ int key_refused(PyObject *object) {
     }
     int plain = base == NULL ? 0 : is_plain(type, base);
     if (plain == 1) {
-        PyErr_SetString(PyExc_OverflowError, "an int that is a key is from -2**63 up to 2**64 - 1");
+        PyErr_SetString(PyExc_OverflowError, "an int key must be from -2**63 up to 2**64 - 1");
     } else if (plain == 0 && PyType_GetSlot(type, Py_tp_hash) == (void *)PyObject_HashNotImplemented) {
         PyErr_Format(PyExc_TypeError, "unhashable type: '%U'", name);
     } else if (plain == 0 && base != NULL) {
-        PyErr_Format(PyExc_TypeError, "a key compares and hashes as int, str or bytes do, and '%U' has its own way", name);
+        PyErr_Format(PyExc_TypeError, "a key must compare and hash as int, str or bytes do, unlike '%U'", name);
     } else if (plain == 0) {
-        PyErr_Format(PyExc_TypeError, "a key is an int, a str or bytes, not '%U'", name);
+        PyErr_Format(PyExc_TypeError, "a key must be an int, a str or bytes, not '%U'", name);
     }
     Py_DECREF(name);
     return -1;

@@ -29,7 +29,7 @@ void state_leave(State *state) {
     }
 }
 
-/* Once the module is cleared, at the end of the interpreter, its types are gone. */
+/* Once the module is cleared, at the end of the interpreter, its types no longer exist. */
 static bool is_below(PyObject *object, PyTypeObject *type) {
     return type != NULL && PyObject_TypeCheck(object, type);
 }
@@ -48,7 +48,7 @@ bool is_cache(const State *state, PyObject *object) {
 
 Table *table_new(State *state, PyTypeObject *type) {
     if (state == NULL || type == NULL) {
-        PyErr_SetString(PyExc_RuntimeError, "the module bucket is gone");
+        PyErr_SetString(PyExc_RuntimeError, "the module bucket is no longer loaded");
         return NULL;
     }
     allocfunc alloc = (allocfunc)PyType_GetSlot(type, Py_tp_alloc);

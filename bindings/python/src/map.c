@@ -117,7 +117,7 @@ PyObject *map_made(PyObject *module, PyObject *args) {
     }
     PyObject *made = PyObject_CallMethod((PyObject *)type, "__new__", "O", type);
     if (made != NULL && (!is_map(state, made) || words < 0 || hashed < 0)) {
-        PyErr_SetString(PyExc_TypeError, "a type below Map and two sizes are wanted");
+        PyErr_SetString(PyExc_TypeError, "a subclass of Map and two sizes are required");
         Py_CLEAR(made);
     }
     if (made != NULL) {
@@ -131,11 +131,11 @@ static PyMethodDef map_methods[] = {
     {"get", (PyCFunction)(void (*)(void))pairs_get, METH_FASTCALL,
      "get($self, key, default=None, /)\n--\n\nThe value at a key, or the default. O(1)."},
     {"setdefault", (PyCFunction)(void (*)(void))pairs_setdefault, METH_FASTCALL,
-     "setdefault($self, key, default=None, /)\n--\n\nThe value at a key; or the default, which is put there. O(1)."},
+     "setdefault($self, key, default=None, /)\n--\n\nThe value at a key; if the key is absent, inserts the default. O(1)."},
     {"pop", (PyCFunction)(void (*)(void))pairs_pop, METH_FASTCALL,
      "pop(key[, default])\n\nRemoves a pair, and returns its value, or the default; else KeyError. O(1)."},
     {"popitem", pairs_popitem, METH_NOARGS,
-     "popitem($self, /)\n--\n\nRemoves some pair, and returns it; KeyError if there is none. A loop of it costs O(slots)."},
+     "popitem($self, /)\n--\n\nRemoves some pair, and returns it; KeyError if there is none. Removing all this way costs O(slots)."},
     {"update", (PyCFunction)(void (*)(void))pairs_update, METH_VARARGS | METH_KEYWORDS,
      "update([other], **pairs)\n\nPuts the pairs of a mapping or of an iterable of pairs, then the keywords'."},
     {"clear", map_clear, METH_NOARGS, "clear($self, /)\n--\n\nRemoves all pairs. O(n)."},
@@ -147,7 +147,7 @@ static PyMethodDef map_methods[] = {
     {"values", pairs_values, METH_NOARGS, "values($self, /)\n--\n\nA live view of the values."},
     {"items", pairs_items, METH_NOARGS, "items($self, /)\n--\n\nA live view of the pairs."},
     {"__reduce__", map_reduce, METH_NOARGS, "For copies and pickles."},
-    {"__sizeof__", collection_sizeof, METH_NOARGS, "About how many bytes it takes, without keys and values."},
+    {"__sizeof__", collection_sizeof, METH_NOARGS, "The approximate size in bytes, without keys and values."},
     {"__class_getitem__", Py_GenericAlias, METH_O | METH_CLASS, "Map[str, int], for type hints."},
     {NULL, NULL, 0, NULL},
 };
@@ -159,7 +159,7 @@ static PyMemberDef map_members[] = {
 
 static PyType_Slot map_slots[] = {
     {Py_tp_doc, "Map([pairs], **more)\n\nA hash map with a dict's calls, whose keys are ints from -2**63 up to 2**64 - 1, strs and\n"
-                "bytes. Another key is absent for a look-up or a removal, and a TypeError, or OverflowError, where it is put.\n"
+                "bytes. Any other key is absent in a look-up or a removal, and raises TypeError or OverflowError if put.\n"
                 "The order is that of its slots, and changes as pairs are put and removed."},
     {Py_tp_new, collection_new},
     {Py_tp_init, map_init},

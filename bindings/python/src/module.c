@@ -60,14 +60,14 @@ static PyObject *count_nodes(PyObject *module, PyObject *unused) {
 static PyMethodDef functions[] = {
     {"seeded", seeded, METH_O,
      "seeded($module, seed, /)\n--\n\n"
-     "Collections whose first key comes from now on hash by these 16 bytes; by None: each by\n"
-     "random ones of its own.\n\n"
-     "Keys come in the order of their hashes. So a loop that puts those of one Map or Set into\n"
-     "another of the same bytes takes up to O(n * n). Calls that take a whole collection, as copy\n"
-     "and update do, take O(n). A Cache has other bytes, made of these.\n\n"
-     "Each process begins with random ones, or with PYTHONHASHSEED. Of a str, bytes and an int from 2**63 on it is Python's\n"
-     "hash that is hashed so, and of strs and bytes that is another one in each process, or by PYTHONHASHSEED."},
-    {"_nodes", count_nodes, METH_NOARGS, "How many pairs there are in memory, for tests."},
+     "Sets the seed, 16 bytes, of the collections whose first key is put from now on. None: a\n"
+     "random seed for each collection.\n\n"
+     "Keys are iterated in the order of their hashes. So a loop that puts those of one Map or Set\n"
+     "into another with the same seed takes up to O(n * n). Calls that take a whole collection,\n"
+     "such as copy and update, take O(n). A Cache has another seed, derived from this one.\n\n"
+     "At first the seeds are random, or derived from PYTHONHASHSEED. Of a str, bytes and an int from 2**63 on, Python's own\n"
+     "hash is hashed; that of strs and bytes differs in each process, unless PYTHONHASHSEED is set."},
+    {"_nodes", count_nodes, METH_NOARGS, "The number of pairs in memory, for tests."},
     {"_map_of", map_made, METH_VARARGS, "For pickles of a Map."},
     {"_set_of", set_made, METH_VARARGS, "For pickles of a Set."},
     {"_cache_of", cache_made, METH_VARARGS, "For pickles of a Cache."},
@@ -134,7 +134,7 @@ static int module_exec(PyObject *module) {
     state->holders = 1;
     *own = state;
     if (bucket_version() != BUCKET_VERSION) {
-        PyErr_SetString(PyExc_ImportError, "the library has another version than the header");
+        PyErr_SetString(PyExc_ImportError, "the library and the header have different versions");
         return -1;
     }
     if (make_types(module, state) < 0 || seed_by_chance(state) < 0 || add_version(module) < 0) {

@@ -7,7 +7,7 @@
 /* For up to this many pairs no room is made in advance. */
 enum { FEW = 32 };
 
-/* ---- How many come ---- */
+/* ---- The expected number ---- */
 
 /* An item that is not a key, or is an int from 2^63 on, is miscounted: too much room is made. */
 static void count_key(Coming *coming, PyObject *key) {

@@ -125,7 +125,7 @@ PyObject *set_made(PyObject *module, PyObject *args) {
     }
     PyObject *made = PyObject_CallMethod((PyObject *)type, "__new__", "O", type);
     if (made != NULL && !is_set(state, made)) {
-        PyErr_SetString(PyExc_TypeError, "a type below Set is wanted");
+        PyErr_SetString(PyExc_TypeError, "a subclass of Set is required");
         Py_CLEAR(made);
     }
     if (made != NULL && set_add_all((Table *)made, keys) < 0) {
@@ -135,29 +135,29 @@ PyObject *set_made(PyObject *module, PyObject *args) {
 }
 
 static PyMethodDef set_methods[] = {
-    {"add", set_add, METH_O, "add($self, key, /)\n--\n\nPuts a key. O(1)."},
-    {"discard", set_discard, METH_O, "discard($self, key, /)\n--\n\nRemoves a key, if it is there. O(1)."},
+    {"add", set_add, METH_O, "add($self, key, /)\n--\n\nAdds a key. O(1)."},
+    {"discard", set_discard, METH_O, "discard($self, key, /)\n--\n\nRemoves a key, if it is present. O(1)."},
     {"remove", set_remove, METH_O, "remove($self, key, /)\n--\n\nRemoves a key; KeyError if it is absent. O(1)."},
     {"pop", set_pop, METH_NOARGS, "pop($self, /)\n--\n\nRemoves some key, and returns it; KeyError if there is none."},
     {"clear", set_clear, METH_NOARGS, "clear($self, /)\n--\n\nRemoves all keys. O(n)."},
     {"copy", set_copy, METH_NOARGS,
      "copy($self, /)\n--\n\nA Set of the same keys. O(n)."},
-    {"update", set_update, METH_VARARGS, "update(*others)\n\nPuts the keys of iterables."},
+    {"update", set_update, METH_VARARGS, "update(*others)\n\nAdds the keys of iterables."},
     {"union", set_union, METH_VARARGS, "union(*others)\n\nA Set of the keys that are in any."},
     {"intersection", set_intersection, METH_VARARGS, "intersection(*others)\n\nA Set of the keys that are in all."},
     {"intersection_update", set_intersection_update, METH_VARARGS,
      "intersection_update(*others)\n\nRemoves the keys that aren't in all. If it fails, all keys stay."},
-    {"difference", set_difference, METH_VARARGS, "difference(*others)\n\nA Set of the keys that are in no other."},
+    {"difference", set_difference, METH_VARARGS, "difference(*others)\n\nA Set of the keys that are in none of the others."},
     {"difference_update", set_difference_update, METH_VARARGS, "difference_update(*others)\n\nRemoves the keys of iterables."},
     {"symmetric_difference", set_symmetric_difference, METH_O,
-     "symmetric_difference($self, other, /)\n--\n\nA Set of the keys that are in one alone."},
+     "symmetric_difference($self, other, /)\n--\n\nA Set of the keys that are in exactly one."},
     {"symmetric_difference_update", set_symmetric_difference_update, METH_O,
-     "symmetric_difference_update($self, other, /)\n--\n\nLeaves the keys that are in one alone. If it fails, all keys stay."},
+     "symmetric_difference_update($self, other, /)\n--\n\nKeeps the keys in exactly one. If it fails, all keys stay."},
     {"isdisjoint", set_like_isdisjoint, METH_O, "isdisjoint($self, other, /)\n--\n\nWhether no key is in both."},
     {"issubset", set_issubset, METH_O, "issubset($self, other, /)\n--\n\nWhether each key is in the other."},
     {"issuperset", set_issuperset, METH_O, "issuperset($self, other, /)\n--\n\nWhether each item of the other is in the set."},
     {"__reduce__", set_reduce, METH_NOARGS, "For copies and pickles."},
-    {"__sizeof__", collection_sizeof, METH_NOARGS, "About how many bytes it takes, without keys."},
+    {"__sizeof__", collection_sizeof, METH_NOARGS, "The approximate size in bytes, without keys."},
     {"__class_getitem__", Py_GenericAlias, METH_O | METH_CLASS, "Set[str], for type hints."},
     {NULL, NULL, 0, NULL},
 };
@@ -168,8 +168,8 @@ static PyMemberDef set_members[] = {
 };
 
 static PyType_Slot set_slots[] = {
-    {Py_tp_doc, "Set([keys])\n\nA set of ints from -2**63 up to 2**64 - 1, strs and bytes, with a set's calls and operators. Another\n"
-                "key is absent for a look-up or a removal, and a TypeError, or OverflowError, where it is put. The order is that\n"
+    {Py_tp_doc, "Set([keys])\n\nA set of ints from -2**63 up to 2**64 - 1, strs and bytes, with a set's calls and operators. Any\n"
+                "other key is absent in a look-up or a removal, and raises TypeError or OverflowError if put. The order is that\n"
                 "of its slots, and changes as keys are put and removed."},
     {Py_tp_new, collection_new},
     {Py_tp_init, set_init},

@@ -60,7 +60,7 @@ int code_refused(uint32_t code) {
     if (code == BUCKET_NO_MEMORY) {
         PyErr_NoMemory();
     } else {
-        PyErr_Format(PyExc_RuntimeError, "the library answers %u", (unsigned)code);
+        PyErr_Format(PyExc_RuntimeError, "the library returned the code %u", (unsigned)code);
     }
     return -1;
 }

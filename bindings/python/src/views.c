@@ -8,7 +8,7 @@ typedef struct View {
 
 PyObject *view_new(Table *table, PyTypeObject *type) {
     if (type == NULL) {
-        PyErr_SetString(PyExc_RuntimeError, "the module bucket is gone");
+        PyErr_SetString(PyExc_RuntimeError, "the module bucket is no longer loaded");
         return NULL;
     }
     View *view = PyObject_GC_New(View, type);
@@ -296,7 +296,7 @@ static PyObject *view_xor(PyObject *left, PyObject *right) {
 /* ---- Types ---- */
 
 static PyGetSetDef view_attributes[] = {
-    {"mapping", view_mapping, NULL, "The collection that this view is of, read-only.", NULL},
+    {"mapping", view_mapping, NULL, "The collection of this view, read-only.", NULL},
     {NULL, NULL, NULL, NULL, NULL},
 };
 

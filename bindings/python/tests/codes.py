@@ -45,7 +45,7 @@ def main():
             for call in SILENT:
                 assert raised(call, kind()) is None, (code, kind, call)
                 tried += 1
-    print(f"{tried} answers of a library that are none: absent, or raised")
+    print(f"{tried} calls with codes of failures: each found nothing, or raised")
 
 
 main()

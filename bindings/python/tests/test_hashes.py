@@ -242,8 +242,8 @@ class ByChance(unittest.TestCase):
 
 @unittest.skipIf("BUCKET_OTHER_HASH" in os.environ, "a full bucket, since the library has another hash")
 class AFullBucket(unittest.TestCase):
-    """Keys of a cache that stand in one bucket of the library, strs and the bytes of the same hashes: the pair touched longest
-    ago goes, and alone."""
+    """Keys of a cache in one bucket of the library, strs and the bytes of the same hashes: the pair touched longest ago is
+    evicted, and no other."""
 
     SEED = bytes(range(16))
 

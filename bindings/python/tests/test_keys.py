@@ -132,8 +132,8 @@ class Keys(unittest.TestCase):
     def test_an_error_tells_why(self):
         rows = [
             ([], TypeError, "unhashable type: 'list'"),
-            (1.5, TypeError, "a key is an int, a str or bytes, not 'float'"),
-            (OtherHash("a"), TypeError, "'OtherHash' has its own way"),
+            (1.5, TypeError, "a key must be an int, a str or bytes, not 'float'"),
+            (OtherHash("a"), TypeError, "as int, str or bytes do, unlike 'OtherHash'"),
             (1 << 64, OverflowError, "from -2**63 up to 2**64 - 1"),
         ]
         for key, error, message in rows:

@@ -125,7 +125,7 @@ class Refused(unittest.TestCase):
         put(made, kind.key(200), 1)
         self.assertIn(kind.key(200), made)
 
-    @unittest.skipIf(_testcapi is None, "requests of Python for memory, since there is no _testcapi")
+    @unittest.skipIf(_testcapi is None, "failing allocations of Python, since there is no _testcapi")
     def test_each_request_of_python_is_refused_once(self):
         refusals = 0
         for kind in KINDS + full(12):
@@ -146,7 +146,7 @@ class Refused(unittest.TestCase):
                         break
         self.assertGreater(refusals, 1000)
 
-    @unittest.skipIf(_testcapi is None, "requests of Python for memory, since there is no _testcapi")
+    @unittest.skipIf(_testcapi is None, "failing allocations of Python, since there is no _testcapi")
     def test_all_requests_of_python_are_refused_for_a_while(self):
         for kind in KINDS + full(12):
             for call, is_write in calls(kind):
@@ -162,7 +162,7 @@ class Refused(unittest.TestCase):
                         _testcapi.remove_mem_hooks()
                     self.check(kind, made, model, call, is_write, is_refused)
 
-    @unittest.skipUnless(REFUSES, "the library's requests for memory, since the module isn't built with refuse.c")
+    @unittest.skipUnless(REFUSES, "failing allocations of the library, since the module isn't built with refuse.c")
     def test_each_request_of_the_library_is_refused_once(self):
         refusals = 0
         for count in 0, 12, 60, 300:
@@ -214,7 +214,7 @@ class Refused(unittest.TestCase):
                 return number - 1
         self.fail("requests without end")
 
-    @unittest.skipIf(_testcapi is None, "requests of Python for memory, since there is no _testcapi")
+    @unittest.skipIf(_testcapi is None, "failing allocations of Python, since there is no _testcapi")
     def test_a_full_cache_stays_as_it_was_where_python_is_refused(self):
         def end():
             _testcapi.remove_mem_hooks()
@@ -229,7 +229,7 @@ class Refused(unittest.TestCase):
             for call in CALLS_OF_A_CACHE:
                 self.play_full([key(number) for number in range(13)], call, refuse, end)
 
-    @unittest.skipUnless(REFUSES, "the library's requests for memory, since the module isn't built with refuse.c")
+    @unittest.skipUnless(REFUSES, "failing allocations of the library, since the module isn't built with refuse.c")
     def test_a_full_cache_stays_as_it_was_where_the_library_is_refused(self):
         def end():
             asked = LIBRARY.bucket_asked()
@@ -251,7 +251,7 @@ class Refused(unittest.TestCase):
                 refusals += self.play_full(texts[:count], call, LIBRARY.bucket_refuse, end)
         self.assertGreater(refusals, 50)
 
-    @unittest.skipUnless(REFUSES, "the library's requests for memory, since the module isn't built with refuse.c")
+    @unittest.skipUnless(REFUSES, "failing allocations of the library, since the module isn't built with refuse.c")
     def test_calls_by_chance_while_one_request_in_five_is_refused(self):
         source, refusals, before = random.Random(8), 0, _bucket._nodes()
         for key in KEYS:

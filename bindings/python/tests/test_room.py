@@ -15,7 +15,7 @@ from test_memory import LIBRARY, REFUSES
 
 SEED = bytes(range(16))
 SEEDS = [None, SEED, bytes(16)]
-WHY = "the library's requests for memory, since the module isn't built with refuse.c"
+WHY = "failing allocations of the library, since the module isn't built with refuse.c"
 
 # Each makes a collection of the same pairs or keys, or of one more.
 OF_A_MAP = [
@@ -234,7 +234,7 @@ class Requests(unittest.TestCase):
         for key in word, text:
             pairs = pairs_of(key, 1000)
             source, after = bucket.Map(pairs), before | pairs
-            # The room for all is made before the first one comes.
+            # The room for all is made before the first one is inserted.
             for sure in source, pairs:
                 for target in bucket.Map, lambda pairs: updated(bucket.Cache(2000), pairs):
                     left, _ = self.refused(

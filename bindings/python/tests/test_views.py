@@ -171,14 +171,14 @@ class Views(unittest.TestCase):
         iterables = [[], [(2, 3)], {(2, 3)}, {(1, 2)}, {(2, 3), (1, 2), 7}, frozenset([(2, 3), 8, 9]), [(1, []), (1, 2)], ((1, 2),)]
         for left in samples:
             own = bucket.Map(left).items()
-            # Where a set is asked for the view's pairs, the order tells whether one without a hash comes.
+            # If the view's pairs are looked up in a set, the order decides whether one without a hash is looked up.
             models = [dict(pairs).items() for pairs in itertools.permutations(left.items())]
             for right in samples + iterables:
                 second = right.items() if isinstance(right, dict) else right
                 for call in OPERATORS + COMPARISONS + [lambda one, two: one.isdisjoint(two)]:
                     for other in [second] if second is right else [second, bucket.Map(right).items()]:
                         self.assertIn(outcome(call, own, other), [outcome(call, model, second) for model in models])
-                # The left one of two views answers, and xor of a dict's takes pairs that it doesn't know for hashed ones.
+                # The left one of two views runs the operator, and xor of a dict's view hashes the pairs of any other type.
                 for operate in OPERATORS if second is right else OPERATORS[:3]:
                     self.assertIn(outcome(operate, second, own), [outcome(operate, second, model) for model in models])
 

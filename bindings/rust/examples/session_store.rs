@@ -6,7 +6,7 @@
 use bucket::{Cache, NoMemory};
 use std::fmt;
 
-/// What a session knows of its user.
+/// A user's session.
 #[derive(Debug)]
 struct Session {
     user: String,
@@ -44,7 +44,7 @@ impl SessionStore {
         if let Some((_, gone)) = self.sessions.put(token.clone(), session)? {
             self.evicted += 1;
             if self.evicted == 1 {
-                println!("the first session that goes for another one is that of {}", gone.user);
+                println!("the first evicted session is that of {}", gone.user);
             }
         }
         Ok(token)
@@ -99,7 +99,7 @@ fn main() -> Result<(), NoMemory> {
     let now = 90_000;
     assert_eq!(store.visit(&bob, "/", now).err(), Some(Refused::Unknown));
     let swept = store.sweep(now);
-    println!("{swept} were over; {store}");
+    println!("{swept} had expired; {store}");
     assert!(swept > 0 && store.sessions.iter().all(|(_, session)| now - session.last_used <= 3600));
     let session = store.log_out(&ann).expect("Ann was never away for an hour");
     println!("{} leaves after {} pages", session.user, session.pages.len());

@@ -68,7 +68,7 @@ fn words(mut seed: u64, pairs: usize) -> Vec<u64> {
 fn ours(times: &mut Times, who: &str, seed: Seed, there: &[u64], others: &[u64]) {
     let mut map = Map::with_seed(seed);
     times.add(format!("{who}: insert"), there, |key| map.insert(*key, *key).unwrap().is_none().into());
-    times.add(format!("{who}: get, there"), there, |key| map.get(key).copied().unwrap_or(1));
+    times.add(format!("{who}: get, present"), there, |key| map.get(key).copied().unwrap_or(1));
     times.add(format!("{who}: get, absent"), others, |key| map.get(key).copied().unwrap_or(1));
     times.add(format!("{who}: insert over"), there, |key| map.insert(*key, 1).unwrap().unwrap_or(1));
     times.add(format!("{who}: entry += 1"), there, |key| {
@@ -83,7 +83,7 @@ fn ours(times: &mut Times, who: &str, seed: Seed, there: &[u64], others: &[u64])
 fn stds<S: BuildHasher + Default>(times: &mut Times, who: &str, there: &[u64], others: &[u64]) {
     let mut map: HashMap<u64, u64, S> = HashMap::default();
     times.add(format!("{who}: insert"), there, |key| map.insert(*key, *key).is_none().into());
-    times.add(format!("{who}: get, there"), there, |key| map.get(key).copied().unwrap_or(1));
+    times.add(format!("{who}: get, present"), there, |key| map.get(key).copied().unwrap_or(1));
     times.add(format!("{who}: get, absent"), others, |key| map.get(key).copied().unwrap_or(1));
     times.add(format!("{who}: insert over"), there, |key| map.insert(*key, 1).unwrap_or(1));
     times.add(format!("{who}: entry += 1"), there, |key| {
@@ -98,14 +98,14 @@ fn stds<S: BuildHasher + Default>(times: &mut Times, who: &str, there: &[u64], o
 fn our_texts(times: &mut Times, who: &str, seed: Seed, names: &[String]) {
     let mut map = Map::with_seed(seed);
     times.add(format!("{who}: insert"), names, |key| map.insert(key.clone(), 1u64).unwrap().is_none().into());
-    times.add(format!("{who}: get, there"), names, |key| map.get(&key[..]).copied().unwrap_or(1));
+    times.add(format!("{who}: get, present"), names, |key| map.get(&key[..]).copied().unwrap_or(1));
     times.add(format!("{who}: remove"), names, |key| map.remove(&key[..]).unwrap_or(1));
 }
 
 fn std_texts<S: BuildHasher + Default>(times: &mut Times, who: &str, names: &[String]) {
     let mut map: HashMap<String, u64, S> = HashMap::default();
     times.add(format!("{who}: insert"), names, |key| map.insert(key.clone(), 1).is_none().into());
-    times.add(format!("{who}: get, there"), names, |key| map.get(&key[..]).copied().unwrap_or(1));
+    times.add(format!("{who}: get, present"), names, |key| map.get(&key[..]).copied().unwrap_or(1));
     times.add(format!("{who}: remove"), names, |key| map.remove(&key[..]).unwrap_or(1));
 }
 

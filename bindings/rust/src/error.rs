@@ -58,7 +58,7 @@ pub enum Reason {
 impl fmt::Display for Reason {
     fn fmt(&self, f: &mut fmt::Formatter<'_>) -> fmt::Result {
         f.write_str(match self {
-            Reason::Present => "the key is there",
+            Reason::Present => "the key is present",
             Reason::NoMemory => "allocation failed",
         })
     }

@@ -53,7 +53,7 @@ fn a_map_drops_the_values_beside_those_that_panic() {
             let tally = Tally::default();
             let map = with_panics(&tally, panics);
             let dropped = tally.dropped();
-            assert!(panicking(|| end(map)).ends_with("panics as it is dropped"));
+            assert!(panicking(|| end(map)).ends_with("panics when dropped"));
             assert_eq!((tally.there(), tally.dropped() - dropped), (0, 200));
         }
     }
@@ -94,7 +94,7 @@ fn a_closure_of_retain_that_panics_loses_nothing() {
             })
         });
         assert_eq!((&said[..], asked), ("the closure panics", at));
-        // Those for which it returned `false` are gone.
+        // Those for which it returned `false` were removed.
         is_whole(&mut map, &tally, 200 - refused);
     }
     // It panics, and so does a value for which it returned `false`.

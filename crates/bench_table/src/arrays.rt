@@ -19,7 +19,7 @@ const ROUNDS: usize = 9;
 const WORDS: usize = (1 << 12) * mem::size_of::<Pairs>();
 
 /// Prints the cost of an array, and of as much memory of zeros.
-pub(crate) fn run_arrays(rt: &HostRuntime, wants_times: bool) -> io::Result<()> {
+pub(crate) fn run_arrays(rt: &HostRuntime, prints_times: bool) -> io::Result<()> {
     let mut array_time = Duration::MAX;
     let mut zeros_time = Duration::MAX;
     let mut slots = 0;
@@ -38,7 +38,7 @@ pub(crate) fn run_arrays(rt: &HostRuntime, wants_times: bool) -> io::Result<()> 
         drop(zeros);
     }
     println!(rt; "{slots} slots, zeros {are_zero}, {ROUNDS} rounds")?;
-    if wants_times {
+    if prints_times {
         println!(rt;
             "array {} us, zeros {} us",
             array_time.as_micros(),

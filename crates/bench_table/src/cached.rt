@@ -69,7 +69,7 @@ impl Cached for Listed {
 /// as many absent ones are looked up, and then twice as many keys are put as there is room for.
 pub(crate) fn run_cache<C: Cached>(
     rt: &HostRuntime,
-    wants_times: bool,
+    prints_times: bool,
     pairs: u64,
 ) -> io::Result<()> {
     let half = pairs / 2;
@@ -77,17 +77,17 @@ pub(crate) fn run_cache<C: Cached>(
     let mut cache = C::with_size(rt.alloc(), pairs)?;
     let start = Instant::now(rt)?;
     require(put_all(&mut cache, 0, half) == half)?;
-    print_time(rt, wants_times, "fill", start, half)?;
+    print_time(rt, prints_times, "fill", start, half)?;
     let start = Instant::now(rt)?;
     let found = touch_all(&mut cache, 0, half);
-    print_time(rt, wants_times, "touch", start, half)?;
+    print_time(rt, prints_times, "touch", start, half)?;
     require(found >= half - half / 16)?;
     let start = Instant::now(rt)?;
     require(touch_all(&mut cache, pairs, pairs.wrapping_add(half)) == 0)?;
-    print_time(rt, wants_times, "absent", start, half)?;
+    print_time(rt, prints_times, "absent", start, half)?;
     let start = Instant::now(rt)?;
     require(put_all(&mut cache, pairs, pairs.wrapping_add(twice)) == twice)?;
-    print_time(rt, wants_times, "evict", start, twice)
+    print_time(rt, prints_times, "evict", start, twice)
 }
 
 /// Puts the keys of a half-open range, and returns how many are in the cache.

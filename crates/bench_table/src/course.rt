@@ -11,13 +11,13 @@ use std::time::Instant;
 /// times it prints the name and the number.
 pub(crate) fn print_time(
     rt: &HostRuntime,
-    wants_times: bool,
+    prints_times: bool,
     name: &str,
     start: Instant,
     calls: u64,
 ) -> io::Result<()> {
     let nanoseconds = start.elapsed(rt)?.as_nanos();
-    if wants_times {
+    if prints_times {
         println!(rt; "{name} {nanoseconds} {calls}")?;
     } else {
         println!(rt; "{name} {calls}")?;
@@ -28,77 +28,77 @@ pub(crate) fn print_time(
 /// Prints the cost of calls on a map that grows from nothing to an even number of pairs.
 pub(crate) fn run_calls<M: Measured>(
     rt: &HostRuntime,
-    wants_times: bool,
+    prints_times: bool,
     pairs: u64,
 ) -> io::Result<()> {
     let twice = pairs.wrapping_mul(2);
-    let before = resident_bytes(rt, wants_times)?;
+    let before = resident_bytes(rt, prints_times)?;
     let mut map = M::with_room(rt.alloc(), 0)?;
     let start = Instant::now(rt)?;
     require(insert_all(&mut map, 0, pairs) == pairs)?;
-    print_time(rt, wants_times, "insert", start, pairs)?;
-    let after = resident_bytes(rt, wants_times)?;
-    if wants_times {
+    print_time(rt, prints_times, "insert", start, pairs)?;
+    let after = resident_bytes(rt, prints_times)?;
+    if prints_times {
         println!(rt; "bytes {} {pairs}", after.saturating_sub(before))?;
     }
     let start = Instant::now(rt)?;
     require(find_all(&map, 0, pairs) == pairs)?;
-    print_time(rt, wants_times, "hit", start, pairs)?;
+    print_time(rt, prints_times, "hit", start, pairs)?;
     let start = Instant::now(rt)?;
     require(miss_all(&map, pairs, twice) == pairs)?;
-    print_time(rt, wants_times, "miss", start, pairs)?;
+    print_time(rt, prints_times, "miss", start, pairs)?;
     let start = Instant::now(rt)?;
     require(churn_all(&mut map, pairs) == pairs)?;
-    print_time(rt, wants_times, "churn", start, pairs)?;
-    run_ends(rt, wants_times, &mut map, pairs)
+    print_time(rt, prints_times, "churn", start, pairs)?;
+    run_ends(rt, prints_times, &mut map, pairs)
 }
 
 /// Prints the cost of walks, sweeps and removals on a map with the keys from `pairs` to twice that.
 fn run_ends<M: Measured>(
     rt: &HostRuntime,
-    wants_times: bool,
+    prints_times: bool,
     map: &mut M,
     pairs: u64,
 ) -> io::Result<()> {
     let twice = pairs.wrapping_mul(2);
     let start = Instant::now(rt)?;
     let sum = map.sum();
-    print_time(rt, wants_times, "walk", start, pairs)?;
+    print_time(rt, prints_times, "walk", start, pairs)?;
     require(sum == sum_between(pairs, twice))?;
     let start = Instant::now(rt)?;
     let sum = map.iterated();
-    print_time(rt, wants_times, "iter", start, pairs)?;
+    print_time(rt, prints_times, "iter", start, pairs)?;
     require(sum == sum_between(pairs, twice))?;
     let start = Instant::now(rt)?;
     require(remove_all(map, pairs, twice) == pairs)?;
-    print_time(rt, wants_times, "remove", start, pairs)?;
+    print_time(rt, prints_times, "remove", start, pairs)?;
     require(insert_all(map, 0, pairs) == pairs)?;
     let start = Instant::now(rt)?;
     require(map.drop_odd() == pairs / 2)?;
-    print_time(rt, wants_times, "sweep", start, pairs)
+    print_time(rt, prints_times, "sweep", start, pairs)
 }
 
 /// Prints the cost of an insertion in a map that was large enough from the start, and then of a
 /// removal, where the map keeps its size.
 pub(crate) fn run_large<M: Measured>(
     rt: &HostRuntime,
-    wants_times: bool,
+    prints_times: bool,
     pairs: u64,
 ) -> io::Result<()> {
     let mut map = M::with_room(rt.alloc(), pairs)?;
     let start = Instant::now(rt)?;
     require(insert_all(&mut map, 0, pairs) == pairs)?;
-    print_time(rt, wants_times, "large", start, pairs)?;
+    print_time(rt, prints_times, "large", start, pairs)?;
     let start = Instant::now(rt)?;
     require(remove_all(&mut map, 0, pairs) == pairs)?;
-    print_time(rt, wants_times, "emptied", start, pairs)
+    print_time(rt, prints_times, "emptied", start, pairs)
 }
 
 /// Prints how long single insertions took in a map that grows to that many pairs: the longest, the
 /// 99.99th percentile, and those of some ranks, from the slowest.
 pub(crate) fn run_single<M: Measured>(
     rt: &HostRuntime,
-    wants_times: bool,
+    prints_times: bool,
     pairs: u64,
 ) -> io::Result<()> {
     let mut times: Vec<u128> = Vec::with_capacity(rt.alloc(), pairs as usize)?;
@@ -110,7 +110,7 @@ pub(crate) fn run_single<M: Measured>(
         require(came)?;
     }
     times.sort_unstable();
-    if !wants_times {
+    if !prints_times {
         println!(rt; "single {}", times.len())?;
         return Ok(());
     }

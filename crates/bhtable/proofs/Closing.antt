@@ -23,7 +23,7 @@ abbrev pub IsReady : Result (Unit {0}) Stop → Option (List ℕ) → Option (Li
 IsReady (Err (BadLine number)) start output waiting lines = HasToldBad start output waiting lines number
 IsReady ended start output waiting lines = IsReplied ended start output waiting lines
 
--- the text that the answers are in goes on, and no line comes
+-- the text with the answers grows, and no line is added
 some_grown : (start output output2 : Option (List ℕ)) (waiting waiting2 : List ℕ) (lines : List (List ℕ))
     → HasRepliedSome start output waiting lines → HasGrown output waiting output2 waiting2 []
     → HasRepliedSome start output2 waiting2 lines

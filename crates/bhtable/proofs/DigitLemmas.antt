@@ -18,7 +18,7 @@ small_before rest last small =
     let step : 10 ^ (last + 1) ≡ 10 ^ last * 10 = rw add-one (pow-suc 10 last) in
     omega arith
 
--- one more digit comes before the last
+-- one more digit is written before the last one
 one_before : (rest last : ℕ) → 10 ≤ rest → rest < 10 ^ (last + 1) → 1 ≤ last
 one_before rest zero large small = omega arith
 one_before rest (suc last) large small = omega arith

@@ -8,11 +8,11 @@ use Rattle.bhtable.specs.Growing.{HasGrown, IsWritten}
 use Rattle.bhtable.specs.declared.stop.Stop.{Stop}
 use Rattle.bhtable.specs.declared.stop.Stop.TheVariants.{OutputFailed}
 
--- nothing came, and nothing was taken
+-- nothing was appended, and nothing was written
 pub nothing_grown : (output : Option (List ℕ)) (waiting : List ℕ) → HasGrown output waiting output waiting []
 nothing_grown output waiting = record { taken = []; written = Appends-nil output; in_order = append-nil waiting }
 
--- a text came, and all of it waits
+-- a text was appended, and all of it waits
 pub grown_waiting : (output : Option (List ℕ)) (waiting text : List ℕ) → HasGrown output waiting output (waiting ++ text) text
 grown_waiting output waiting text = record { taken = []; written = Appends-nil output; in_order = refl }
 
@@ -69,7 +69,7 @@ grown_kept old new new2 waiting left text grown kept = record {
   in_order = grown.in_order;
 }
 
--- a flush that fails has lost nothing
+-- a flush that fails loses nothing
 pub flushed_line : (result : Result (Unit {0}) Stop) (old new new2 : Option (List ℕ)) (line : List ℕ) → Appends old new line
     → Keeps new new2 → IfErr result (λ stop. stop ≡ OutputFailed) → IsWritten result old new2 line
 flushed_line (Ok done) old new new2 line written kept failed = Appends-kept old new new2 line written kept

@@ -23,7 +23,7 @@ line_len-ge bytes = elim (cases_Bool (get_or bytes (length bytes - 1) 0 == 13)) 
 pub length-without_return : (bytes : List ℕ) → length (without_return bytes) ≡ line_len bytes
 length-without_return bytes = length-take-le (line_len bytes) bytes (line_len-le bytes)
 
--- a line that goes on is no shorter
+-- a line that continues is no shorter
 pub line_len-append : (bytes more : List ℕ) → line_len bytes ≤ line_len (bytes ++ more)
 line_len-append bytes [] = rw append-nil (omega arith)
 line_len-append bytes (byte ∷ more) =

@@ -1,4 +1,4 @@
--- What an answer from rows of words and meanings says of the word.
+-- What a look-up in rows of words and meanings states about the word.
 use Rattle.std.proofs.Common.{◌≡◌, ℕ, Bool, true, false, cond, find, option_map, List, [], ◌∷◌, Option, Some, None, IfSome, refl, sym, ap}
 use Rattle.std.proofs.Common.{◌∙◌}
 use lib.Pointwise.{bytes_decides}

@@ -19,7 +19,7 @@ use Rattle.bhtable.proofs.Growing.{grown_more, grown_out, grown_waiting, would_g
 use Rattle.bhtable.proofs.Replying.{answered_out}
 use Rattle.bhtable.proofs.Closing.{HasToldBad, IsReady, ready_grown}
 
--- the answers of the first lines, and of what comes last, as far as the output has them
+-- the answers of the first lines, and the last line, as far as the output has them
 begun : (lines first others : List (List ℕ)) (start output : Option (List ℕ)) (lost text last : List ℕ) (table : Option ScriptTable)
     (status : ℕ) → ((whole : Option (List ℕ)) → HasAnsweredSome lines start whole last → IsWhole lines start whole status)
     → lines ≡ first ++ others → AreAnswers None first text table → HasGrown start [] output lost (text ++ last)

@@ -26,7 +26,7 @@ nothing_read start is_ended unread none goes_on = record {
   split = λ more last. sym (ap (λ (l : List ℕ). lines_of (l ++ more)) none);
 }
 
--- what a read adds, or that it came to the end
+-- what a read adds, or that it reached the end
 pub more_read : (start left left2 : Option (List ℕ)) (is_ended is_ended2 : Bool) (unread unread2 more : List ℕ) (before : List (List ℕ))
     → HasRead start left is_ended unread before → is_ended ≡ false → unread2 ≡ unread ++ more → Consumes left left2 more
     → ((is_ended2 ≡ true) × IsAtEnd left2) ⊎ ((is_ended2 ≡ is_ended) × (0 < length more))

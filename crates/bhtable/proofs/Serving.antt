@@ -1,4 +1,4 @@
--- How far a script has come, line by line, and how it ends.
+-- How far a script has been served, line by line, and how it ends.
 use Rattle.std.proofs.Common.{◌≡◌, ℕ, ◌+◌, ◌<◌, ◌⊎◌, inl, inr, List, [], ◌∷◌, ◌++◌, Bool, true, false, Option, Result, Ok, Err, length}
 use Rattle.std.proofs.Common.{take, drop, sym, ap, ◌∙◌, append-nil, append_assoc, length-append}
 use Rattle.std.specs.Io.KnownBytes.{Consumes, IsAtEnd}

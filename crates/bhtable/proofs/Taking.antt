@@ -113,7 +113,7 @@ all_pushed start output output2 session session2 lines before after replies take
     rw taken.in_order (replied_more start output output2 _ _ _ taken.answered taken.waiting (Some before) (Some after) replied
     (answered_all taken.waiting session.calls.items replies before after taken.calls ran) grown)
 
--- the calls that waited are done, and their replies were appended as far as that went
+-- the waiting calls are done, and their replies were appended as far as possible
 pub pushed : (start output output2 : Option (List ℕ)) (session session2 : Session) (lines : List (List ℕ)) (before after : ScriptTable)
     (replies : List (Reply ℕ ℕ)) (result : Result (Unit {0}) Stop) → HasTaken start output session lines
     → table_at_hand session.table ≡ Some before → table_at_hand session2.table ≡ Some after

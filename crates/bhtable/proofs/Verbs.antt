@@ -24,7 +24,7 @@ forms = map (λ row. (row.0.now, row.1)) FORMS
 forms_named : AreNamed form_word forms
 forms_named = search rules
 
--- the request has the form, with as many parts as that says
+-- the request has the form, with as many parts as the form requires
 abbrev IsOfForm : Form → Request → Type 0
 IsOfForm Table (RequestNew table) = Unit {0}
 IsOfForm Epoch (RequestEpoch generation) = Unit {0}
@@ -84,7 +84,7 @@ same_length request request2 same = same_length_at (meaning forms (request_line 
 verb_of_form : (bytes : List ℕ) (form : Form) → meaning forms bytes ≡ Some form → bytes ≡ form_word form
 verb_of_form bytes form found = rw found at (named_by_meaning form_word forms bytes forms_named)
 
--- the first word of a line is the verb of what it asks for
+-- the first word of a line is the verb of its request
 starts_with_verb : (bytes : List ℕ) (parts : List Part) (request : Request) → Asks (part_of bytes ∷ parts) request
     → bytes ≡ (request_line request).0
 starts_with_verb bytes parts request (same, in_range) = word_written bytes (request_line request).0 (cc)

@@ -92,7 +92,7 @@ AreAnswers old (line ∷ lines) text new =
     (length line ≤ 4096) × ((first : List ℕ) × (rest : List ℕ) × (between : Option ScriptTable)
     × IsAnswer old line first between × AreAnswers between lines rest new × (text ≡ first ++ rest))
 
--- the line is too long, or has words that ask for nothing, or for a call, a question or an epoch before the first table
+-- the line is too long, or its words are no request, or one for a call, a question or an epoch before the first table
 abbrev pub IsUnreadable : Option ScriptTable → List ℕ → Type 0
 IsUnreadable table line = (4096 < length line) ⊎ ((parts_of line ≡ [] → ⊥)
     × ((request : Request) → Asks (parts_of line) request → (table ≡ None) × ((new : NewTable) → request ≡ New new → ⊥)))

@@ -1,4 +1,4 @@
--- What a line asks for.
+-- What a line requests.
 use Rattle.std.specs.Prelude.{ℕ, ◌≡◌, ◌<◌, ◌≤◌, Bool, List, [], ◌∷◌, codes, if◌then◌else◌}
 use Rattle.std.specs.Int.{IsPowerOfTwo}
 use Rattle.bhtable.specs.Words.{Part, number, text}

@@ -293,7 +293,7 @@ fn told_by<L: LruList, const TYPE: u8>(
     ensures told { result ≡ told table.now.arrays question }
     ensures one_map { IsOneMap nat_eq (script_hash table.now.hasher) table.now.arrays }
 {
-    table.sound();
+    table.fact_sound();
     match question {
         Question::Slots => Reply::Number(table.num_slots()),
         Question::Word => match table.rehashing_metadata() {

@@ -29,7 +29,7 @@ lies : (R : RattleType) → IsSend R → (p : Ptr) (x : R.Denot) → Keyless (li
 lies R s (block_ptr b o) x = part_keyless R s full_share x b o
 lies R s null_ptr x = tt
 
--- one search a kind: one over all kinds goes back over each when a later one takes it too deep
+-- one search for each kind: a single one over all kinds repeats the earlier ones whenever a later one exceeds the depth
 ruleset each_kind = (HashMap-send, HashSet-send, HashCache-send, hash.the_send, beginning.the_send, hasher.the_send, crosses, sendable)
 
 Table-send : IsSend table.the_row

@@ -101,7 +101,7 @@ module _ (room spare : ℕ) (piece : Piece) (pieces : List Piece) where
   first_is_longer : nat_le (length piece.0) spare ≡ false → fitting (suc room) spare (piece ∷ pieces) ≡ []
   first_is_longer longer = rw (lt-ltb 0 (suc room) (omega arith), longer) refl
 
--- the first piece is written if it fits, and what the others are written from there on is known
+-- the first piece is written if it fits, given what the others write from there on
 module _ (room count end spare : ℕ) (rows : List TextPair) (bytes : List ℕ) (piece : Piece) (pieces : List Piece) (last : State)
     (within : count + suc room ≤ length rows) (is : end + spare ≡ length bytes)
     (went : Copies (place 0 (suc room) count end, rows, bytes) (piece ∷ pieces) last) where

@@ -1,4 +1,4 @@
--- What a copy of one bucket's pairs says of the bucket.
+-- What a copy of one bucket's pairs states about the bucket.
 use Rattle.std.proofs.Common.{ℕ, ◌<◌, Bool, true, false, List, cond, length, refl, arith}
 use Rattle.std.specs.Prelude.{◌↔◌, IsTrue}
 use Rattle.bucket_calls.specs.Buckets.{CopiesBucket}

@@ -4,7 +4,7 @@ use Rattle.std.specs.Prelude.{ℕ, ◌≡◌, ◌++◌, Bool, List, Option, Some
 use Rattle.std.specs.Prelude.{take, unwrap_or}
 use Rattle.std.specs.declared.alloc.AllocFailed.{AllocFailed}
 use Rattle.bucket_table.specs.Views.ArraysView.{TableView}
-use Rattle.bucket_table.specs.declared.hash_table.NotInserted.{NotInserted}
+use Rattle.bucket_slots.specs.declared.not_inserted.NotInserted.{NotInserted}
 use Rattle.collections.specs.CacheUpserts.{UpsertsInOrder, UpsertsOrEvicts}
 use Rattle.collections.specs.Changes.{Puts, Removes}
 use Rattle.collections.specs.Crowding.{LacksBucket}

@@ -1,4 +1,4 @@
--- The hash that a seed stands for.
+-- The hash that a seed determines.
 use Rattle.std.specs.Prelude.{ℕ, ◌&&◌, List, Vec, cond, nat_eq}
 use Rattle.std.specs.Hash as fed
 use Rattle.std.specs.Hash.DefaultHasher as sip

@@ -1,4 +1,4 @@
--- What contracts of the calls on collections say.
+-- What contracts of the calls on collections cite.
 pub mod Codes
 pub mod Hashing
 pub mod Views

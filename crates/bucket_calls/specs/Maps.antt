@@ -2,7 +2,7 @@
 -- clauses hold for that answer.
 use Rattle.std.specs.Prelude.{ℕ, ◌≡◌, Bool, MatchOption, Option, Result, unwrap_or}
 use Rattle.std.specs.declared.alloc.AllocFailed.{AllocFailed}
-use Rattle.bucket_table.specs.declared.hash_table.NotInserted.{NotInserted}
+use Rattle.bucket_slots.specs.declared.not_inserted.NotInserted.{NotInserted}
 use Rattle.collections.specs.Changes.{Inserts, Removes, SetRemoves, Takes, Upserts}
 use Rattle.collections.specs.Crowding.{LacksRoom}
 use Rattle.collections.specs.Maps.{MapView, get, get_by}

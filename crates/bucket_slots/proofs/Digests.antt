@@ -3,7 +3,7 @@ use Rattle.bucket_slots.proofs.Words.{BucketView, IsMaskOf, List, SetsBit, Slot,
 use Rattle.bucket_slots.proofs.Words.{cases_eq, cond, empty_bucket, false, free, get_or, get_or-map, get_or-set_other}
 use Rattle.bucket_slots.proofs.Words.{get_or-set_same, has_byte, is_free, is_marked, IsBucketOf, INDEX, IsLowest, IsTrue, Place}
 use Rattle.bucket_slots.proofs.Words.{position, sum_by-append, trailing_zeros, get_or-le-sum_by, bit_at_not, w32, slots_without}
-use Rattle.bucket_slots.proofs.Words.{slots_with, slots_after_insertion, ne_eqb, is_wanted, place_wanted, first_from, None}
+use Rattle.bucket_slots.proofs.Words.{slots_with, slots_after_insertion, ne_eqb, is_match, place_matched, first_from, None}
 use Rattle.bucket_slots.proofs.Words.{Bool, cases_lt, inl, inr, is_live, length, length-set, live, live_pairs, marked, min}
 use Rattle.bucket_slots.proofs.Words.{ones, pairs_in, refl, set, slot_at, subst, sym, true, common_steps, flattened}
 use Rattle.bucket_slots.proofs.Words.{replicate, ◌≤◌, suc, with_unmade, zero, ℕ, ◌-◌, ◌<◌, ◌==◌, ◌^◌, ◌∙◌, ◌≡◌, ◌≢◌}
@@ -21,7 +21,7 @@ use Rattle.bucket_slots.proofs.Positions.{position_at}
 use Rattle.bucket_slots.proofs.ArrayParts.{part_unmade}
 use Rattle.bucket_slots.proofs.Spreading.{put_in_own}
 use Rattle.bucket_slots.proofs.FirstPlaces.{first_chain}
-use Rattle.bucket_slots.proofs.RowMasks.{candidate_live, unwanted}
+use Rattle.bucket_slots.proofs.RowMasks.{candidate_live, unmatched}
 use Rattle.bucket_slots.proofs.Masks.{lowest_passes, IsLeft-first, ones-mask, position-none_left}
 use Rattle.bucket_slots.proofs.Masks.{IsMaskOf-from, IsMaskOf-set, bit-mask, within}
 
@@ -218,7 +218,7 @@ module _ {K V : Type 0} where
     | inr past ↦ absurd (said (none i past))
   ]
 
-  -- one digest is stored anew
+  -- one digest is refreshed
   pub AreDigests-refreshed : (old new : DigestLists) (buckets : List (BucketView K V)) (index : ℕ) (bucket : BucketView K V) (bits : ℕ)
       (bytes : List ℕ) → 4 < length buckets → AreDigests old buckets → ChangesOne index old new → Refreshes bits bytes (digest_at new index)
       → (bits ≢ 2 ^ 32 - 1 → IsDigest (record { live = bits; bytes = bytes }) bucket) → bucket ≡ bucket_at buckets index
@@ -237,11 +237,11 @@ module _ {K V : Type 0} where
           subst (λ (d : Digest). IsDigest d bucket) (sym e) (is (λ stale. known (ap (λ (d : Digest). d.live) e ∙ stale)))
 
   -- if no live own slot has the byte, none matches
-  pub none_by_mask : (wants : K → Bool) (byte : ℕ) (bucket : BucketView K V) → IsMaskOf (has_byte byte) bucket.own 0 → bucket.chain ≡ []
-      → place_wanted wants byte bucket ≡ None
-  none_by_mask wants byte bucket mask none =
-      let want = is_wanted wants byte in
-      let left = IsLeft-first (has_byte byte) (λ slot. want slot ≡ false) free bucket.own 0 refl (unwanted wants byte) mask in
+  pub none_by_mask : (matches : K → Bool) (byte : ℕ) (bucket : BucketView K V) → IsMaskOf (has_byte byte) bucket.own 0 → bucket.chain ≡ []
+      → place_matched matches byte bucket ≡ None
+  none_by_mask matches byte bucket mask none =
+      let want = is_match matches byte in
+      let left = IsLeft-first (has_byte byte) (λ slot. want slot ≡ false) free bucket.own 0 refl (unmatched matches byte) mask in
       let nowhere = position-none_left (has_byte byte) want free bucket.own left in
       sym (first_chain want bucket.own bucket.chain (sym nowhere)) ∙ ap (first_from want 1) none
 

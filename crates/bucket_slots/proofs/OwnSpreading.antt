@@ -13,7 +13,7 @@ use Rattle.bucket_slots.proofs.NextPlaces.{moves_first}
 use Rattle.bucket_slots.proofs.RowFields.{row_freed}
 use Rattle.bucket_slots.proofs.RowSlots.{HoldsLive, live_held, slot_held, within_row}
 
--- the union of two bitmaps, of which one doesn't have bit k and the other loses it
+-- the union of two bitmaps when bit k is cleared in one and isn't set in the other
 SetsBit-or : (marks left k after : ℕ) → bit_at marks k ≡ 0 → SetsBit left k 0 after → SetsBit (bit_or marks left) k 0 (bit_or marks after)
 SetsBit-or marks left k after clear s = record {
   same = omega (arith, bit_at_or marks after k, s.same, clear);

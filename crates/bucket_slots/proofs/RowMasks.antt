@@ -2,7 +2,7 @@
 use Rattle.bucket_slots.proofs.Words.{Bool, IsLowest, IsMaskOf, IsRow, List, Option, SetsBit, Slot, Some, ap, arith, bit_and, bit_at}
 use Rattle.bucket_slots.proofs.Words.{bit_at-zero, bit_at_and, common_steps, cond, false, free, get_or, get_or-map, get_or-set_other}
 use Rattle.bucket_slots.proofs.Words.{get_or-set_same, get_or_default, has_byte, if◌then◌else◌, is_free, is_live, is_marked, is_some}
-use Rattle.bucket_slots.proofs.Words.{is_wanted, length, live, map, map-set, map_fixed, marked, min, not, pair_of, refl, row_slots, set}
+use Rattle.bucket_slots.proofs.Words.{is_match, length, live, map, map-set, map_fixed, marked, min, not, pair_of, refl, row_slots, set}
 use Rattle.bucket_slots.proofs.Words.{set-get_or, slot_at, slot_of, slot_without_expired, sym, true, ℕ, ◌&&◌, ◌-◌, ◌/◌, ◌<◌, ◌==◌}
 use Rattle.bucket_slots.proofs.Words.{◌^◌, ◌∙◌, ◌≡◌}
 use Rattle.bucket_slots.specs.Layout.Expiring.{IsExpiring}
@@ -70,18 +70,19 @@ module _ {K V : Type 0} where
         omega (arith, all, bit_at_and mask occupied i, bit_at_and occupied (2 ^ 32 - 1 - marks) i))
 
   -- a candidate matches exactly if its key does
-  pub candidate_wanted : (wants now : K → Bool) (byte : ℕ) (slot : Slot K V) (key : K) (value : V) (said : Bool) → has_byte byte slot ≡ true
-      → pair_of slot ≡ Some (key, value) → now ≡ wants → said ≡ now key → is_wanted wants byte slot ≡ said
-  candidate_wanted wants now byte free key value said matches read same answer = cc
-  candidate_wanted wants now byte (live pair own) key value said matches read same answer =
-      let here : pair ≡ (key, value) = cc in rw (matches, here, ← same) (sym answer)
-  candidate_wanted wants now byte (marked pair own) key value said matches read same answer = cc
+  pub candidate_matched : (matches now : K → Bool) (byte : ℕ) (slot : Slot K V) (key : K) (value : V) (said : Bool)
+      → has_byte byte slot ≡ true
+      → pair_of slot ≡ Some (key, value) → now ≡ matches → said ≡ now key → is_match matches byte slot ≡ said
+  candidate_matched matches now byte free key value said hit read same answer = cc
+  candidate_matched matches now byte (live pair own) key value said hit read same answer =
+      let here : pair ≡ (key, value) = cc in rw (hit, here, ← same) (sym answer)
+  candidate_matched matches now byte (marked pair own) key value said hit read same answer = cc
 
   -- a slot that isn't a candidate doesn't match
-  pub unwanted : (test : K → Bool) (byte : ℕ) (slot : Slot K V) → has_byte byte slot ≡ false → is_wanted test byte slot ≡ false
-  unwanted test byte free other = refl
-  unwanted test byte (live pair own) other = rw other refl
-  unwanted test byte (marked pair own) other = refl
+  pub unmatched : (test : K → Bool) (byte : ℕ) (slot : Slot K V) → has_byte byte slot ≡ false → is_match test byte slot ≡ false
+  unmatched test byte free other = refl
+  unmatched test byte (live pair own) other = rw other refl
+  unmatched test byte (marked pair own) other = refl
 
 module _ {K V : Type 0} (keeps : ℕ → Bool) where
   -- a slot that is freed if it is expired isn't expired then, nor is a slot without a tombstone

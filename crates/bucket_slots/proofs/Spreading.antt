@@ -17,7 +17,7 @@ use Rattle.bucket_slots.specs.Layout.ArrayParts.{AreBuckets, buckets_of}
 use Rattle.bucket_slots.proofs.Intervals.{home_by_offset}
 
 module _ {K V : Type 0} where
-  -- if an own slot is free, a pair goes to the first free one
+  -- if an own slot is free, a pair is placed in the first free one
   pub put_in_own : (b : BucketView K V) (pos : ℕ) (pair : K × V) (byte : ℕ) → position is_free b.own ≡ Some pos
       → slots_with b pair byte ≡ with_slot b (record { block = 0; pos = pos }) (live pair byte)
   put_in_own b pos pair byte at =

@@ -61,7 +61,7 @@ pub use Rattle.bucket_slots.specs.Removing.{place_after, place_after_at, place_u
 pub use Rattle.bucket_slots.specs.Removing.{slots_without_at}
 pub use Rattle.bucket_slots.specs.Reserving.{IsFewestBlocks, free_len_in, with_free_blocks}
 pub use Rattle.bucket_slots.specs.Sampling.{IsLargeSample, IsSmallSample, StartsSampling}
-pub use Rattle.bucket_slots.specs.Searching.{has_byte, is_wanted, matching_len, pair_wanted, place_wanted}
+pub use Rattle.bucket_slots.specs.Searching.{has_byte, is_match, matching_len, pair_matched, place_matched}
 pub use Rattle.bucket_slots.specs.Sizing.{IsGrownCapacity, IsLeastDoubling, IsLeastPowerOfTwo, IsLengthFor, IsOptimalCapacity}
 pub use Rattle.bucket_slots.specs.Slots.{Slot, all_free, byte_of, free, free_len, is_free, is_live, is_marked, live, live_entries}
 pub use Rattle.bucket_slots.specs.Slots.{live_entry, live_pair, live_pairs, marked, marked_entries, marked_entry, marked_len, pair_of}

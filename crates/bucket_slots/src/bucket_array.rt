@@ -40,7 +40,6 @@ use sizing::MINIMUM_CAPACITY;
 pub use sizing::{MAXIMUM_SLOTS, full_sample_size_of, large_sample_size_of, small_sample_size_of};
 use std::alloc::{AllocError, Global};
 use std::marker::Model;
-pub use writing::NotPut;
 
 /// Buckets of the kind `TYPE` with LRU lists `L`. Each is the home of an interval of hashes.
 #[derive(Drop)]
@@ -197,7 +196,7 @@ impl<K, V, L: LruList, const TYPE: u8> BucketArray<K, V, L, TYPE> {
         requires { index < length self.now }
         ensures { result.now ≡ places_of (bucket_at self.now index).own }
     {
-        self.room();
+        self.fact_room();
         self.bucket(index).data_block()
     }
 
@@ -250,11 +249,11 @@ impl<K, V, L: LruList, const TYPE: u8> BucketArray<K, V, L, TYPE> {
     ///
     /// O(1).
     #[inline(always)]
-    pub fn room(&self)
+    pub fn fact_room(&self)
         ensures fits { BucketFits K.row V.row L.row TYPE.row
             (record { KEEPS = L.KEEPS; listed = L.listed; IsTail = L.IsTail }) L.Default }
         ensures length { IsLength (length self.now) }
     {
-        self.buckets.room();
+        self.buckets.fact_room();
     }
 }

@@ -22,6 +22,7 @@ pub use Rattle.bucket_table.proofs.Moves.MovingPairs.{homed-permutation, homed_h
 pub use Rattle.bucket_table.proofs.Moves.Staying.{from_row, in_row}
 pub use Rattle.bucket_table.proofs.Walking.EachPair.{calls_same}
 pub use Rattle.bucket_table.proofs.Walking.Filters.{IsPermutation-filter}
+pub use Rattle.bucket_table.proofs.Walking.RetainingTable.{none_joined}
 pub use Rattle.bucket_table.proofs.Walking.Row.{pairs_in_row}
 -- when a table drops its array
 pub use Rattle.bucket_table.proofs.Resize.GivingUp.{gives_up_at_zero}

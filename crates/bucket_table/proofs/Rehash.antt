@@ -7,7 +7,7 @@ pub mod UnitWork
 pub mod UnitRuns
 pub mod Spending
 pub mod Killing
-pub mod Wanting
+pub mod NeedingMemory
 pub mod FinishingUnits
 pub mod StayingKilled
 pub mod TicketSteps

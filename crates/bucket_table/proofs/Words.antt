@@ -53,12 +53,12 @@ pub use Rattle.bucket_table.specs.Rehash.Relocation.{AreHome, AreTwoArrays, IsEn
 pub use Rattle.bucket_table.specs.Rehash.Relocation.{entries_among, home_of, homed_len, marks_among}
 pub use Rattle.bucket_table.specs.Rehash.State.{TicketState, first_tickets}
 pub use Rattle.bucket_table.specs.Rehash.Steps.{Closes, Ends, HandsOut, IsOver, Starts}
-pub use Rattle.bucket_table.specs.Rehash.Units.{HasWorkedUnits, KillsOnly, RelocatesSome, SpendsSome, WantsMemory, WorksUnit, WorksUnits}
+pub use Rattle.bucket_table.specs.Rehash.Units.{HasWorkedUnits, KillsOnly, RelocatesSome, SpendsSome, NeedsMemory, WorksUnit, WorksUnits}
 pub use Rattle.bucket_table.specs.Resize.Asking.{AsksShrinking, ResizesIf}
 pub use Rattle.bucket_table.specs.Resize.ResizePlan.{IsPlan, IsPlanTo, last_estimate, slots_of}
 pub use Rattle.bucket_table.specs.Resize.Sampling.{counted, live_counts}
 pub use Rattle.bucket_table.specs.Views.ArraysView.{AreArrays, ArePlaced, AreSourcesKilled, ArraysView, IsOneMap, IsSource, LosesNoUnit}
-pub use Rattle.bucket_table.specs.Views.ArraysView.{TableView, entries_of, killed_flags, list_of, marks_of, pairs_of}
+pub use Rattle.bucket_table.specs.Views.ArraysView.{TableView, entries_of, killed_flags, list_of, tombstones_of, pairs_of}
 pub use Rattle.bucket_table.specs.Views.Keeping.{Keeps, KeepsArrays, KeepsOpenTickets}
 pub use Rattle.bucket_table.specs.Views.Locking.{IsLocked}
 pub use Rattle.bucket_table.specs.Views.Sides.{arrays_with, bucket_on, buckets_on, with_bucket}

@@ -10,7 +10,6 @@ pub mod Finding
 pub mod Splitting
 pub mod Preparing
 pub mod Refusing
-pub mod Refusals
 pub mod Taking
 pub mod Vacancies
 pub mod Free

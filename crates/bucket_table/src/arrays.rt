@@ -158,11 +158,11 @@ impl<K, V, L: LruList, const TYPE: u8> Arrays<K, V, L, TYPE> {
     }
 
     /// States that the arrays and the tickets are within their bounds; does nothing at run time.
-    pub(crate) fn sound(&self)
+    pub(crate) fn fact_sound(&self)
         ensures arrays { AreArrays self.now }
         ensures tickets { IsTicketState self.now.tickets }
     {
-        self.linked.sound();
+        self.linked.fact_sound();
     }
 
     /// Returns the number of buckets of the current array, and 0 where there is none.

@@ -20,7 +20,6 @@ mod insert;
 mod iter;
 mod locked_bucket;
 mod lookup;
-mod not_inserted;
 mod remove;
 mod renew;
 mod resize;
@@ -40,6 +39,7 @@ pub use crate::tickets::{REF_COUNT_BITS, REHASHING_UNIT_LEN, TicketError};
 use bucket_slots::bucket::BUCKET_LEN;
 use bucket_slots::bucket_array::BucketArray;
 use bucket_slots::lru::LruList;
+pub use bucket_slots::not_inserted::NotInserted;
 pub use evict::puts_keep_chains;
 pub use locked_bucket::LockedBucket;
 use std::alloc::Global;
@@ -49,15 +49,6 @@ use std::marker::Model;
 pub const MAXIMUM_CAPACITY_LIMIT: usize = 1 << 63;
 
 const _: () = prove!(MAXIMUM_CAPACITY_LIMIT == 9223372036854775808);
-
-/// Why a pair wasn't inserted, with the pair.
-#[derive(Debug, Drop)]
-pub enum NotInserted<K, V> {
-    /// An equal key is in the map.
-    Present(K, V),
-    /// Allocation failed.
-    Memory(K, V),
-}
 
 /// What a search that found nothing learned about the home. An insertion of the key resumes from
 /// it.
@@ -268,7 +259,7 @@ impl<K: Eq, V, H: KeyHash<K>, L: LruList, const TYPE: u8> HashTable<K, V, H, L, 
 
     /// States that the table is one map, that the current array, if there is one, has the length of
     /// an array, and that an old array exists only beside a current one; does nothing at run time.
-    pub fn sound(&self)
+    pub fn fact_sound(&self)
         ensures one_map { IsOneMap K.eq (H.hash_of self.now.hasher) self.now.arrays }
         ensures long { 0 < length self.now.arrays.current
             → IsLength (length self.now.arrays.current) }
@@ -276,7 +267,7 @@ impl<K: Eq, V, H: KeyHash<K>, L: LruList, const TYPE: u8> HashTable<K, V, H, L, 
             → pairs_of self.now.arrays ≡ [] }
         ensures beside { 0 < length self.now.arrays.linked → 0 < length self.now.arrays.current }
     {
-        self.arrays.sound();
+        self.arrays.fact_sound();
         let _len = self.arrays.len();
     }
 }

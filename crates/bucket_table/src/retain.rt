@@ -106,7 +106,7 @@ fn retain_front<K: Drop, V: Drop, L: LruList, F: FnMut(&K, &mut V) -> bool, cons
     ensures left { (epoch : ℕ) → IsLeftOf TYPE epoch bucket.old bucket.new }
     ensures own_long { length bucket.old.own ≡ BUCKET_LEN }
 {
-    bucket.sound();
+    bucket.fact_sound();
     if TYPE == INDEX || TYPE == CACHE {
         return EntryPtr::null();
     }
@@ -140,12 +140,12 @@ pub(crate) fn ask_slot<
         TYPE keeps ask.old pair bucket.old at.old result bucket.new at.new ask.new }
     ensures left { IsLeftOf TYPE (G.epoch_of generation.now) bucket.old bucket.new }
 {
-    bucket.sound();
+    bucket.fact_sound();
     let (key, value) = bucket.entry_mut(at);
     if ask(key, value) == keeps {
         return None;
     }
-    bucket.sound();
+    bucket.fact_sound();
     take_at(bucket, at, generation)
 }
 
@@ -160,7 +160,7 @@ pub(crate) fn take_at<K: Drop, V: Drop, L: LruList, G: Generation, const TYPE: u
     ensures slots { bucket.new ≡ slots_taken TYPE (G.epoch_of generation.now) bucket.old at.old }
     ensures pairs_ahead { pairs_ahead bucket.new at.new ≡ pairs_ahead bucket.old at.old }
 {
-    bucket.sound();
+    bucket.fact_sound();
     if TYPE == INDEX {
         bucket.mark_removed(at, generation);
         return None;

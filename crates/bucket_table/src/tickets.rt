@@ -85,7 +85,7 @@ impl Tickets {
 
     /// States that the position and the number of open tickets are in their bounds; does nothing at
     /// run time.
-    pub fn sound(&self)
+    pub fn fact_sound(&self)
         ensures { IsTicketState self.now }
     {
         let _ = &self.position;

@@ -16,7 +16,7 @@ use Rattle.bucket_table.specs.Views.ArraysView.{ArePlaced, TableView, pairs_of}
 use Rattle.bucket_table.specs.Views.Sides.{bucket_on, with_bucket}
 use Rattle.bucket_table.specs.declared.arrays.side.Side.{Side}
 use Rattle.bucket_table.specs.declared.hash_table.ResizeRule.TheVariants.{Counted}
-use Rattle.bucket_table.specs.Map.ByKey.{HasNoSlot}
+use Rattle.bucket_slots.specs.Digested.{HasNoSlot}
 use Rattle.bucket_table.specs.Map.Finding.{Finds, FindsBucket}
 use Rattle.bucket_table.specs.Map.Lending.{with_value}
 use Rattle.bucket_table.specs.Map.LookingUp.{IsAbsent}

@@ -188,7 +188,7 @@ module _ {K V H E : Type 0} (eq : K → K → Bool) (more : ℕ) (old : MapView 
     too_many = λ many. (refl, refl);
   }
 
-  -- the count passes 64 bits
+  -- the count exceeds 64 bits
   pub overflows : (error : E) → (len + more < 2 ^ 64 → ⊥) → MakesRoom eq more old (Err error) old
   overflows error much = stays_refused error (λ has.
       let few = few_in old.slots (map_len old + more) shape has.enough in

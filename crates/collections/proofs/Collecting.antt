@@ -140,11 +140,10 @@ module _ {K V H : Type 0} (eq : K → K → Bool) where
       from_before [] between last is = (old, refl, stays_after eq old mid new stays (subst (λ m. Stays eq m new) (sym is) last))
       from_before (p ∷ ps) between last went = (between, (went.0, put_after old mid went.0 stays p.0 p.1 went.1, went.2), last)
 
-  -- a map that was made empty, and in which room was made; nothing else is known of it
-  pub put_into_new : (first ready made : MapView K V H) (pairs : List (K × V)) → IsEmpty first → first.minimum ≡ 64 → first.maximum ≡ 2 ^ 63
-      → (first.slots ≡ 0) × (first.old_slots ≡ 0) → first.bucket_lens ≡ [] → Stays eq first ready → PutsAll eq ready pairs made
+  -- a map that was made empty; nothing else is known of it
+  pub put_into_new : (first made : MapView K V H) (pairs : List (K × V)) → IsEmpty first → first.minimum ≡ 64 → first.maximum ≡ 2 ^ 63
+      → (first.slots ≡ 0) × (first.old_slots ≡ 0) → first.bucket_lens ≡ [] → PutsAll eq first pairs made
       → PutsAll eq (empty_map made.hasher) pairs made
-  put_into_new first ready made pairs empty minimum maximum slots buckets stays puts =
-      let all = stays_then_put first ready made pairs stays puts in
-      subst (λ (h : H). PutsAll eq (empty_map h) pairs made) (sym all.kept.hasher)
-      (subst (λ m. PutsAll eq m pairs made) (new_is first empty minimum maximum slots buckets) all)
+  put_into_new first made pairs empty minimum maximum slots buckets puts =
+      subst (λ (h : H). PutsAll eq (empty_map h) pairs made) (sym puts.kept.hasher)
+      (subst (λ m. PutsAll eq m pairs made) (new_is first empty minimum maximum slots buckets) puts)

@@ -51,7 +51,7 @@ module _ {K V H : Type 0} (eq : K → K → Bool) where
         let Other : K × V → Type 0 = λ o. eq pair.0 o.0 ≡ false in
         lookup_absent eq laws pair.0 m.entries (All-permutation Other done m.entries moved (all_behind Other pairs done none))
 
-    -- inserted pairs come in addition to those that were present
+    -- inserted pairs are added to those that were present
     filled : (pairs done : List (K × V)) (old new : MapView K V H) → IsDistinct eq (keys_of (pairs ++ done))
         → IsPermutation done old.entries → FoldsTo PutsOn (Some old) pairs (Some new)
         → IsPermutation (pairs ++ done) new.entries × (settings new ≡ settings old)

@@ -16,10 +16,11 @@ use Rattle.bucket_slots.specs.BucketView.{BucketView, all_slots, empty_bucket, e
 use Rattle.bucket_slots.specs.Homes.{IsHome, Meets}
 use Rattle.bucket_slots.specs.Slots.{Slot, free, free_len, is_free, is_live, is_marked, live, live_pairs, marked, marked_len}
 use Rattle.bucket_slots.proofs.CallerLemmas.{free_len_in-none, homes_meet, length-entries_in, length-live_pairs, one_source, scales, tally}
-use Rattle.bucket_table.specs.Map.ByKey.{HasNoSlot, Inserts, InsertsAt, Upserts, UpsertsAt}
+use Rattle.bucket_slots.specs.Digested.{HasNoSlot}
+use Rattle.bucket_table.specs.Map.ByKey.{Inserts, InsertsAt, Upserts, UpsertsAt}
 use Rattle.bucket_table.specs.Map.Finding.{Finds, FindsBucket, FindsThen, MakesReady, ReadiesOrGrows}
 use Rattle.bucket_table.specs.Map.MapState.{KeepsPairs, state_of}
-use Rattle.bucket_table.specs.Map.Preparing.{HomeWantsMemory}
+use Rattle.bucket_table.specs.Map.Preparing.{HomeNeedsMemory}
 use Rattle.bucket_table.specs.Map.Putting.{Puts, PutsAt}
 use Rattle.bucket_table.specs.Map.Refusing.{IsRefused}
 use Rattle.bucket_table.specs.Rehash.Relocation.{IsEntryHome, home_of, homed_len}
@@ -29,8 +30,8 @@ use Rattle.bucket_table.specs.declared.arrays.side.Side.{Side}
 use Rattle.bucket_table.specs.declared.arrays.side.Side.TheVariants.{Current, Old}
 use Rattle.bucket_table.specs.declared.hash_table.ResizeRule.{ResizeRule}
 use Rattle.bucket_table.specs.declared.hash_table.ResizeRule.TheVariants.{Counted, Sampled}
-use Rattle.bucket_table.specs.declared.hash_table.NotInserted.{NotInserted}
-use Rattle.bucket_table.specs.declared.hash_table.NotInserted.TheVariants.{Memory}
+use Rattle.bucket_slots.specs.declared.not_inserted.NotInserted.{NotInserted}
+use Rattle.bucket_slots.specs.declared.not_inserted.NotInserted.TheVariants.{Memory}
 use Rattle.bucket_table.proofs.CallerLemmas.{hasher_kept, home_of-interval, homed-permutation, homed_here, homes_on, pairs_exchanged}
 use Rattle.collections.proofs.Found.{found, same_buckets}
 use Rattle.collections.specs.Crowding.{HasAtHome, HasInOld, KeepsHome, LacksBucket, LacksRoom}
@@ -199,13 +200,13 @@ module _ {K V H : Type 0} (kind : ℕ) (hash_of : H → K → ℕ) (key : K) (n 
     | inl stands ↦ from_source (refused.home stands)
   ]
     where
-      from_source : HomeWantsMemory n old.arrays new.arrays
+      from_source : HomeNeedsMemory n old.arrays new.arrays
           → ((length old.arrays.current ≡ 0) ⊎ (length old.arrays.current < length old.arrays.linked))
           ⊎ ((i : ℕ) × IsHome (length new.arrays.linked) n i × (33 ≤ length (pairs_in (bucket_at old.arrays.linked i)))
           × (length new.arrays.linked ≡ length old.arrays.linked))
-      from_source (index, home, wants) =
-          let i = wants.index in
-          let run = refused.prepared.units.stands (omega (arith, wants.within)) in
+      from_source (index, home, matches) =
+          let i = matches.index in
+          let run = refused.prepared.units.stands (omega (arith, matches.within)) in
           let len = refused.prepared.kept.current_len in
           elim (cases_lt (length old.arrays.current) (length old.arrays.linked)) [
             | inl shorter ↦ inl (inr shorter)
@@ -213,14 +214,14 @@ module _ {K V H : Type 0} (kind : ℕ) (hash_of : H → K → ℕ) (key : K) (n 
                 let many : 33 ≤ length (pairs_in (bucket_at old.arrays.linked i)) =
                 elim (cases_lt 32 (length (pairs_in (bucket_at old.arrays.linked i)))) [
                   | inl more ↦ omega (arith, more)
-                  | inr less ↦ absurd (wants.needed (record {
+                  | inr less ↦ absurd (matches.needed (record {
                     no_shorter = omega (arith, longer);
                     few = λ j low high.
                         let same : i ≡ j = omega (arith, low, high) in
                         subst (λ (k : ℕ). length (pairs_in (bucket_at old.arrays.linked k)) ≤ 32) same less;
                   }))
                 ] in
-                inr (i, old_home index i home wants.within wants.one (omega (arith, longer, len, run.len)), many, run.len)
+                inr (i, old_home index i home matches.within matches.one (omega (arith, longer, len, run.len)), many, run.len)
           ]
 
   -- no bucket was found

@@ -14,9 +14,9 @@ pub hash_stays : {K V H : Type 0} (eq : K → K → Bool) (hash_of : H → K →
     → Keeps eq old new → hash ≡ hash_of old.hasher key → hash ≡ hash_of new.hasher key
 hash_stays eq hash_of key hash old new keeps is = is ∙ ap (λ h. hash_of h key) (sym keeps.hasher)
 
-pub hashes_stay : {K V H : Type 0} (eq : K → K → Bool) (hash_of : H → K → ℕ) (wants : K → Bool) (hash : ℕ) (old new : MapView K V H)
-    → Keeps eq old new → HaveHash wants (hash_of old.hasher) hash → HaveHash wants (hash_of new.hasher) hash
-hashes_stay eq hash_of wants hash old new keeps have = λ key wanted. ap (λ h. hash_of h key) keeps.hasher ∙ have key wanted
+pub hashes_stay : {K V H : Type 0} (eq : K → K → Bool) (hash_of : H → K → ℕ) (matches : K → Bool) (hash : ℕ) (old new : MapView K V H)
+    → Keeps eq old new → HaveHash matches (hash_of old.hasher) hash → HaveHash matches (hash_of new.hasher) hash
+hashes_stay eq hash_of matches hash old new keeps have = λ key wanted. ap (λ h. hash_of h key) keeps.hasher ∙ have key wanted
 
 -- what is lent is what was present
 pub same_as_lent : {V : Type 0} (P : V → Type 0) (held : Option V) (value : V) → Some value ≡ held
@@ -24,17 +24,17 @@ pub same_as_lent : {V : Type 0} (P : V → Type 0) (held : Option V) (value : V)
 same_as_lent P held value is = subst (λ (o : Option _). MatchOption o (P value) (λ v. value ≡ v)) is refl
 
 -- a value that is lent in place is put, whatever a put does if no key matches
-pub puts_held : {K V H : Type 0} (eq : K → K → Bool) (map new : MapView K V H) (wants : K → Bool) (before value : V) (P : Type 0)
-    → get_by wants map ≡ Some before → Holds eq wants map before value new
-    → MatchOption (get_by wants map) P (λ held. (own : K) × Replaces eq map wants (own, held) value new)
-puts_held {K} {V} eq map new wants before value P is holds =
-    subst (λ (o : Option V). MatchOption o P (λ held. (own : K) × Replaces eq map wants (own, held) value new)) (sym is) holds
+pub puts_held : {K V H : Type 0} (eq : K → K → Bool) (map new : MapView K V H) (matches : K → Bool) (before value : V) (P : Type 0)
+    → get_by matches map ≡ Some before → Holds eq matches map before value new
+    → MatchOption (get_by matches map) P (λ held. (own : K) × Replaces eq map matches (own, held) value new)
+puts_held {K} {V} eq map new matches before value P is holds =
+    subst (λ (o : Option V). MatchOption o P (λ held. (own : K) × Replaces eq map matches (own, held) value new)) (sym is) holds
 
-module _ {K V H : Type 0} (eq : K → K → Bool) (map new : MapView K V H) (wants : K → Bool) (loan : Option (MutBor V)) (lent : MutBor V)
+module _ {K V H : Type 0} (eq : K → K → Bool) (map new : MapView K V H) (matches : K → Bool) (loan : Option (MutBor V)) (lent : MutBor V)
     (value : V) (is : loan ≡ Some lent) (holds : IfSome loan
-    (λ l. (own : K) × Replaces eq map wants (own, l.now) value new × KeepsSlots map new)) where
+    (λ l. (own : K) × Replaces eq map matches (own, l.now) value new × KeepsSlots map new)) where
   -- a loan of a present value replaces it
-  pub replaces_there : (own : K) × Replaces eq map wants (own, lent.now) value new
+  pub replaces_there : (own : K) × Replaces eq map matches (own, lent.now) value new
   replaces_there = let both = rw is at holds in (both.0, both.1)
 
   -- and the slots stay
@@ -43,17 +43,17 @@ module _ {K V H : Type 0} (eq : K → K → Bool) (map new : MapView K V H) (wan
 
   -- and so the value is put, whatever a put does if no key matches
   pub puts_there : (P : Type 0)
-      → MatchOption (get_by wants map) P (λ before. (own : K) × Replaces eq map wants (own, before) value new)
+      → MatchOption (get_by matches map) P (λ before. (own : K) × Replaces eq map matches (own, before) value new)
   puts_there P =
       subst (λ (held : Option V). MatchOption held P
-      (λ before. (own : K) × Replaces eq map wants (own, before) value new)) (sym replaces_there.1.value) replaces_there
+      (λ before. (own : K) × Replaces eq map matches (own, before) value new)) (sym replaces_there.1.value) replaces_there
 
   -- and the map still contains the key
-  pub still_there : IsEquivalence eq → IsForm eq wants → IsSome (get_by wants new)
+  pub still_there : IsEquivalence eq → IsForm eq matches → IsSome (get_by matches new)
   still_there laws alike =
       let own = replaces_there.0 in
       let with_value = replaces_there.1 in
-      let found : get_by wants new ≡ Some value =
-      form_of_key eq laws wants alike own new.entries with_value.same ∙ with_value.updates own
+      let found : get_by matches new ≡ Some value =
+      form_of_key eq laws matches alike own new.entries with_value.same ∙ with_value.updates own
       ∙ ap (λ b. cond b (Some value) (get eq map own)) with_value.same in
       subst IsSome (sym found) refl

@@ -5,7 +5,7 @@ use Rattle.std.specs.Option.{MatchOption}
 use Rattle.std.specs.Prelude.{IfErr, IfOk, OnErr}
 use Rattle.std.specs.declared.alloc.AllocFailed.{AllocFailed}
 use Rattle.collections.specs.Changes.{Holds}
-use Rattle.collections.specs.Loans.{AddsWanted, PutsWanted}
+use Rattle.collections.specs.Loans.{AddsMatched, PutsMatched}
 use Rattle.collections.specs.Maps.{MapView, get_by}
 use Rattle.collections.proofs.Entries.{puts_held}
 
@@ -65,14 +65,15 @@ module _ {V : Type 0} (P : V → Type 0) (value : V) (made : P value) (held : Op
   back_new (Ok lent) is = tt
   back_new (Err back) is = (subst P (sym is) made, none)
 
-module _ {K V H : Type 0} (eq : K → K → Bool) (old : MapView K V H) (wants : K → Bool) (value : V) (new : MapView K V H) where
+module _ {K V H : Type 0} (eq : K → K → Bool) (old : MapView K V H) (matches : K → Bool) (value : V) (new : MapView K V H) where
   -- one more pair puts the value, if none of the keys was present
-  pub puts_new : get_by wants old ≡ None → AddsWanted eq old wants value new → PutsWanted eq old wants value new
+  pub puts_new : get_by matches old ≡ None → AddsMatched eq old matches value new → PutsMatched eq old matches value new
   puts_new none adds = record { cases = rw none adds; updates = adds.updates }
 
   -- and so does another value under the present key
-  pub puts_over : (before : V) → get_by wants old ≡ Some before → Holds eq wants old before value new → PutsWanted eq old wants value new
+  pub puts_over : (before : V) → get_by matches old ≡ Some before → Holds eq matches old before value new
+      → PutsMatched eq old matches value new
   puts_over before is holds = record {
-    cases = puts_held eq old new wants before value _ is holds;
+    cases = puts_held eq old new matches before value _ is holds;
     updates = holds.1.updates;
   }

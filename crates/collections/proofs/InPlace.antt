@@ -146,8 +146,8 @@ module _ {K V : Type 0} (p : K × V) (w : V) where
       swapped_map (λ entry. entry.0) _ _ _ _ (entries_swapped p w b a side i _ within
       (rw new (bucket_swapped p w b s at.block at.pos is.1)))
 
-module _ {K V : Type 0} (eq : K → K → Bool) (laws : IsEquivalence eq) (wants : K → Bool) (alike : IsForm eq wants) (p : K × V) (w : V)
-    (same : wants p.0 ≡ true) where
+module _ {K V : Type 0} (eq : K → K → Bool) (laws : IsEquivalence eq) (matches : K → Bool) (alike : IsForm eq matches) (p : K × V) (w : V)
+    (same : matches p.0 ≡ true) where
   -- a key before it doesn't match, since no two keys are equal
   apart_from : (own : K) (front rest : List (K × V)) → AllByRecursion (λ k. eq own k ≡ false) (keys_of (front ++ p ∷ rest))
       → eq own p.0 ≡ false
@@ -155,11 +155,11 @@ module _ {K V : Type 0} (eq : K → K → Bool) (laws : IsEquivalence eq) (wants
   apart_from own (x ∷ front) rest apart = apart_from own front rest apart.1
 
   pub set_in_place : (front rest : List (K × V)) → IsDistinct eq (keys_of (front ++ p ∷ rest))
-      → set_value wants (front ++ p ∷ rest) w ≡ front ++ (p.0, w) ∷ rest
+      → set_value matches (front ++ p ∷ rest) w ≡ front ++ (p.0, w) ∷ rest
   set_in_place [] rest distinct = rw same refl
   set_in_place (x ∷ front) rest distinct =
       let apart = apart_from x.0 front rest (IsDistinct-head eq x.0 (keys_of (front ++ p ∷ rest)) distinct) in
-      elim (cases_Bool (wants x.0)) [
+      elim (cases_Bool (matches x.0)) [
         | inl wanted ↦ let equal : eq x.0 p.0 ≡ true = sym (alike x.0 p.0 wanted) ∙ same in absurd cc
         | inr other ↦ rw other
             (ap (λ l. x ∷ l) (set_in_place front rest (IsDistinct-tail eq x.0 (keys_of (front ++ p ∷ rest)) distinct)))
@@ -179,11 +179,11 @@ module _ {K V : Type 0} (eq : K → K → Bool) (laws : IsEquivalence eq) (wants
   -- so the map is the same except for the value
   pub written_in_place : {H : Type 0} (t : TableView K V H) (side : Side) (i : ℕ) (at : Place) → i < length (buckets_on t.arrays side)
       → live_pair (slot_in (bucket_on t.arrays side i) at) ≡ Some p → IsDistinct eq (keys_of (pairs_of t.arrays))
-      → map_of (with_value t side i at w) ≡ map_with_value wants (map_of t) w
+      → map_of (with_value t side i at w) ≡ map_with_value matches (map_of t) w
   written_in_place t side i at within here distinct =
       let s = pairs_swapped p w t.arrays side i at within here in
-      let set : set_value wants (pairs_of t.arrays) w ≡ s.front ++ (p.0, w) ∷ s.rest =
-      ap (λ l. set_value wants l w) s.before ∙ set_in_place s.front s.rest (subst (λ l. IsDistinct eq (keys_of l)) s.before distinct) in
+      let set : set_value matches (pairs_of t.arrays) w ≡ s.front ++ (p.0, w) ∷ s.rest =
+      ap (λ l. set_value matches l w) s.before ∙ set_in_place s.front s.rest (subst (λ l. IsDistinct eq (keys_of l)) s.before distinct) in
       let entries = s.after ∙ sym set in
       let lens = same_len t side i (bucket_with_value (bucket_on t.arrays side i) at w) in
       let buckets = buckets_swapped p w t.arrays side i at here in
@@ -203,20 +203,20 @@ module _ {K V : Type 0} (eq : K → K → Bool) (laws : IsEquivalence eq) (wants
       → i < length (buckets_on t.arrays side)
       → live_pair (slot_in (bucket_on t.arrays side i) at) ≡ Some p → IsDistinct eq (keys_of (pairs_of t.arrays))
       → ChangesValue (state_of kind t) p w (state_of kind (with_value t side i at w))
-      → Holds eq wants (map_of t) p.1 w (map_with_value wants (map_of t) w)
+      → Holds eq matches (map_of t) p.1 w (map_with_value matches (map_of t) w)
   holds_in_place kind t side i at within here distinct changed =
       let s = with_value t side i at w in
       let after : IsDistinct eq (keys_of (pairs_of s.arrays)) =
       distinct_permuted eq laws ((p.0, w) ∷ changed.rest) (pairs_of s.arrays) changed.after.pairs
       (distinct_with eq laws p.0 p.1 w changed.rest (distinct_permuted eq laws (pairs_of t.arrays)
       (p ∷ changed.rest) changed.before distinct)) in
-      subst (λ m. Holds eq wants (map_of t) p.1 w m) (written_in_place t side i at within here distinct)
-      (p.0, replaces eq laws kind t s distinct after wants alike p w same changed)
+      subst (λ m. Holds eq matches (map_of t) p.1 w m) (written_in_place t side i at within here distinct)
+      (p.0, replaces eq laws kind t s distinct after matches alike p w same changed)
 
 -- the pair that a probe found is the one in its slot
-pub found_is : {K V : Type 0} (wants : K → Bool) (pairs : List (K × V)) (found p : K × V) (slot : Option (K × V)) → slot ≡ Some found
-    → slot ≡ Some p → IsThere wants pairs found → IsThere wants pairs p
-found_is wants pairs found p slot is here there =
+pub found_is : {K V : Type 0} (matches : K → Bool) (pairs : List (K × V)) (found p : K × V) (slot : Option (K × V)) → slot ≡ Some found
+    → slot ≡ Some p → IsThere matches pairs found → IsThere matches pairs p
+found_is matches pairs found p slot is here there =
     let both : Some found ≡ Some p = sym is ∙ here in
     let same : found ≡ p = cc in
-    subst (IsThere wants pairs) same there
+    subst (IsThere matches pairs) same there

@@ -10,7 +10,8 @@ use Rattle.bucket_slots.specs.Clearing.{is_full_with_marks, slot_without_expired
 use Rattle.bucket_slots.specs.Homes.{IsHome}
 use Rattle.bucket_slots.specs.Slots.{Slot, free, free_len, is_free, live, live_pairs, marked}
 use Rattle.bucket_slots.proofs.CallerLemmas.{free_len_in-none, length-live_pairs-append, tally}
-use Rattle.bucket_table.specs.Map.ByKey.{HasNoSlot, Inserts, InsertsAt}
+use Rattle.bucket_slots.specs.Digested.{HasNoSlot}
+use Rattle.bucket_table.specs.Map.ByKey.{Inserts, InsertsAt}
 use Rattle.bucket_table.specs.Map.Finding.{Finds, FindsThen}
 use Rattle.bucket_table.specs.Map.MapState.{KeepsPairs, state_of}
 use Rattle.bucket_table.specs.Views.ArraysView.{ArePlaced, TableView}
@@ -18,8 +19,8 @@ use Rattle.bucket_table.specs.Views.Sides.{bucket_on, buckets_on}
 use Rattle.bucket_table.specs.declared.hash_table.ResizeRule.TheVariants.{Counted}
 use Rattle.bucket_table.specs.declared.arrays.side.Side.{Side}
 use Rattle.bucket_table.proofs.CallerLemmas.{hasher_kept}
-use Rattle.bucket_table.specs.declared.hash_table.NotInserted.{NotInserted}
-use Rattle.bucket_table.specs.declared.hash_table.NotInserted.TheVariants.{Memory}
+use Rattle.bucket_slots.specs.declared.not_inserted.NotInserted.{NotInserted}
+use Rattle.bucket_slots.specs.declared.not_inserted.NotInserted.TheVariants.{Memory}
 use Rattle.collections.specs.Crowding.{KeepsHome, LacksSlots}
 use Rattle.collections.proofs.Crowding.{found_len, found_none, found_some, laws_on, none_found}
 use Rattle.collections.proofs.InsertedMarks.{none_kept}

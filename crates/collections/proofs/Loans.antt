@@ -20,7 +20,7 @@ use Rattle.collections.proofs.Slots.{as_long, changed_keeps, prepared_keeps}
 use Rattle.collections.proofs.Steps.{replaces, stays}
 
 module _ {K V H : Type 0} (eq : K → K → Bool) (laws : IsEquivalence eq) (kind : ℕ) (t : TableView K V H)
-    (distinct : IsDistinct eq (keys_of (pairs_of t.arrays))) (wants : K → Bool) (alike : IsForm eq wants) where
+    (distinct : IsDistinct eq (keys_of (pairs_of t.arrays))) (matches : K → Bool) (alike : IsForm eq matches) where
   -- another value under a key leaves the keys distinct
   pub distinct_changed : (s : TableView K V H) (p : K × V) (v : V) → ChangesValue (state_of kind t) p v (state_of kind s)
       → IsDistinct eq (keys_of (pairs_of s.arrays))
@@ -31,31 +31,31 @@ module _ {K V H : Type 0} (eq : K → K → Bool) (laws : IsEquivalence eq) (kin
 
   -- what is written through the loan
   pub lent_replaces : (touches : Bool) (hash : ℕ) (loan : Option (MutBor V)) (s : TableView K V H) (v : V)
-      → IfSome loan (λ lent. WritesUnder touches wants kind hash t lent.now v s)
-      → IfSome loan (λ lent. (own : K) × Replaces eq (map_of t) wants (own, lent.now) v (map_of s) × KeepsSlots (map_of t) (map_of s))
+      → IfSome loan (λ lent. WritesUnder touches matches kind hash t lent.now v s)
+      → IfSome loan (λ lent. (own : K) × Replaces eq (map_of t) matches (own, lent.now) v (map_of s) × KeepsSlots (map_of t) (map_of s))
   lent_replaces touches hash None s v wrote = tt
   lent_replaces touches hash (Some lent) s v wrote =
       let own = wrote.map.0 in
       let changed = wrote.map.2 in
       let after = distinct_changed s (own, lent.now) v changed in (
         own,
-        replaces eq laws kind t s distinct after wants alike (own, lent.now) v wrote.map.1 changed,
-        changed_keeps kind hash t s wants (λ bucket at. bucket_with_value (slots_touched touches bucket at) at v) true wrote.arrays,
+        replaces eq laws kind t s distinct after matches alike (own, lent.now) v wrote.map.1 changed,
+        changed_keeps kind hash t s matches (λ bucket at. bucket_with_value (slots_touched touches bucket at) at v) true wrote.arrays,
       )
 
   -- what is lent
-  pub lent_value : (loan : Option (MutBor V)) → IfSome loan (λ lent. (own : K) × IsThere wants (pairs_of t.arrays) (own, lent.now))
-      → IfNone loan (IsAbsent wants (pairs_of t.arrays)) → option_copied_mut loan ≡ get_by wants (map_of t)
-  lent_value None found absent = sym (form_absent wants (pairs_of t.arrays) absent)
+  pub lent_value : (loan : Option (MutBor V)) → IfSome loan (λ lent. (own : K) × IsThere matches (pairs_of t.arrays) (own, lent.now))
+      → IfNone loan (IsAbsent matches (pairs_of t.arrays)) → option_copied_mut loan ≡ get_by matches (map_of t)
+  lent_value None found absent = sym (form_absent matches (pairs_of t.arrays) absent)
   lent_value (Some lent) found absent =
-      sym (form_there eq laws wants alike (pairs_of t.arrays) (found.0, lent.now) distinct found.1.0 found.1.1)
+      sym (form_there eq laws matches alike (pairs_of t.arrays) (found.0, lent.now) distinct found.1.0 found.1.1)
 
   -- if nothing is lent
   pub lent_none : (hash : ℕ) (loan : Option (MutBor V)) (s : TableView K V H) → IfNone loan (IsPrepared kind hash t s)
-      → IfNone loan (IsAbsent wants (pairs_of t.arrays))
-      → IfNone loan ((get_by wants (map_of t) ≡ None) × Stays eq (map_of t) (map_of s) × KeepsSlots (map_of t) (map_of s))
+      → IfNone loan (IsAbsent matches (pairs_of t.arrays))
+      → IfNone loan ((get_by matches (map_of t) ≡ None) × Stays eq (map_of t) (map_of s) × KeepsSlots (map_of t) (map_of s))
   lent_none hash None s prepared absent = (
-    form_absent wants (pairs_of t.arrays) absent,
+    form_absent matches (pairs_of t.arrays) absent,
     stays eq laws kind t s distinct
         (distinct_permuted eq laws (pairs_of t.arrays) (pairs_of s.arrays) prepared.map.pairs distinct) prepared.map,
     prepared_keeps t s kind hash s prepared (as_long s.arrays),

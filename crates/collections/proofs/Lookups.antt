@@ -84,7 +84,7 @@ module _ {K V : Type 0} (eq : K → K → Bool) (laws : IsEquivalence eq) where
           lookup_there q ys (found.0, v) (distinct_permuted xs ys moved distinct)
           (Contains-permutation xs ys (found.0, v) moved found.1) found.2 ∙ sym e
 
-  -- in the words of a table
+  -- as a table states it
   pub get_absent : (k : K) (ps : List (K × V)) → IsAbsent (λ own. eq own k) ps → lookup (eq k) ps ≡ None
   get_absent k ps none = lookup_absent k ps (λ i d below. laws.symm k _ ∙ none i d below)
 
@@ -196,7 +196,7 @@ module _ {K V : Type 0} (eq : K → K → Bool) (laws : IsEquivalence eq) (test 
       lookup_changed eq laws p.0 q p v rest xs ys distinct before after (laws.refl p.0)
       ∙ ap (λ (b : Bool). cond b (Some v) (lookup (eq q) xs)) (sym (alike p.0 q passes))
 
--- a look-up finds the same or nothing if more pairs come after it
+-- a look-up finds the same in a longer list, or it found nothing
 found_first : {K V : Type 0} (test : K → Bool) (xs ys : List (K × V)) → (lookup test xs ≡ lookup test (xs ++ ys)) ⊎ (lookup test xs ≡ None)
 found_first test [] ys = inr refl
 found_first test (p ∷ xs) ys = elim (cases_Bool (test p.0)) [

@@ -20,8 +20,8 @@ use Rattle.bucket_table.specs.Resize.Resizing.{IsPushed}
 use Rattle.bucket_table.specs.Views.ArraysView.{ArraysView, TableView, pairs_of}
 use Rattle.bucket_table.specs.Views.Sides.{arrays_with, bucket_on, buckets_on}
 use Rattle.bucket_table.specs.declared.hash_table.ResizeRule.TheVariants.{Sampled}
-use Rattle.bucket_table.specs.declared.hash_table.NotInserted.{NotInserted}
-use Rattle.bucket_table.specs.declared.hash_table.NotInserted.TheVariants.{Memory, Present}
+use Rattle.bucket_slots.specs.declared.not_inserted.NotInserted.{NotInserted}
+use Rattle.bucket_slots.specs.declared.not_inserted.NotInserted.TheVariants.{Memory, Present}
 use Rattle.bucket_table.proofs.CallerLemmas.{keeps_both, kept_none, pushed_keeps, split_old}
 use Rattle.collections.specs.Orders.{Leaves, LeavesArray, LeavesPlace, PutsInHome, PutsOrKeeps, ReplacesBucket}
 use Rattle.collections.proofs.Found.{IsFound, found, ready_keeps, same_buckets}
@@ -128,9 +128,9 @@ module _ {K V H : Type 0} (hash : ℕ) (old new : TableView K V H) where
               (ap (λ (t : TableView K V H). t.arrays) x.done.1));
         }
 
-  module _ (wants : K → Bool) where
-    left : (pairs : ℕ) (removed : Bool) (between : TableView K V H) → ShrinksAt wants slots_without (Some pairs) removed between new
-        → Leaves wants removed between.arrays new.arrays
+  module _ (matches : K → Bool) where
+    left : (pairs : ℕ) (removed : Bool) (between : TableView K V H) → ShrinksAt matches slots_without (Some pairs) removed between new
+        → Leaves matches removed between.arrays new.arrays
     left pairs true between (side, index, at, stands, shrinks) = elim (removed_ends pairs between.arrays side index _ new.arrays shrinks) [
       | inl is ↦ inr (side, index, at, stands, inl is)
       | inr (inl gone) ↦ inl (none_left _ new.arrays gone)
@@ -149,8 +149,8 @@ module _ {K V H : Type 0} (hash : ℕ) (old new : TableView K V H) where
 
     -- what the table removes
     pub leaves_place : (pairs : ℕ) (removed : Bool)
-        → PreparesThen 67 hash old (λ between. ShrinksAt wants slots_without (Some pairs) removed between new)
-        → LeavesPlace wants removed old.arrays new.arrays
+        → PreparesThen 67 hash old (λ between. ShrinksAt matches slots_without (Some pairs) removed between new)
+        → LeavesPlace matches removed old.arrays new.arrays
     leaves_place pairs removed p = record {
       between = p.between.arrays;
       carried = prepared_moves hash old p.between p.prepared;
@@ -158,5 +158,5 @@ module _ {K V H : Type 0} (hash : ℕ) (old new : TableView K V H) where
     }
 
 -- if nothing is removed
-pub leaves_none : {K V : Type 0} (wants : K → Bool) (arrays : ArraysView K V) → LeavesPlace wants false arrays arrays
-leaves_none wants arrays = record { between = arrays; carried = moves_on arrays arrays (kept_none arrays) (λ none. refl); left = refl }
+pub leaves_none : {K V : Type 0} (matches : K → Bool) (arrays : ArraysView K V) → LeavesPlace matches false arrays arrays
+leaves_none matches arrays = record { between = arrays; carried = moves_on arrays arrays (kept_none arrays) (λ none. refl); left = refl }

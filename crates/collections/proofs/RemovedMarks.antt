@@ -18,7 +18,7 @@ use Rattle.bucket_table.specs.Map.LookingUp.{IsThere}
 use Rattle.bucket_table.specs.Map.Preparing.{IsPrepared}
 use Rattle.bucket_table.specs.Rehash.Relocation.{marks_among}
 use Rattle.bucket_table.specs.Resize.Resizing.{IsPushed, Releases, Reserves, TriesResize, with_minimum}
-use Rattle.bucket_table.specs.Views.ArraysView.{ArraysView, TableView, marks_of, pairs_of}
+use Rattle.bucket_table.specs.Views.ArraysView.{ArraysView, TableView, tombstones_of, pairs_of}
 use Rattle.bucket_table.specs.Views.Sides.{arrays_with, bucket_on, buckets_on}
 use Rattle.collections.specs.Marks.{AddsMark, AreEarlierMarks, KeepsMarks, MarksRemoved}
 use Rattle.collections.proofs.Shrinking.{none_left, removed_ends, tried}
@@ -41,15 +41,15 @@ module _ {K V : Type 0} where
       let same = ap (slot_marked epoch) (sym is.1) in
       subst (λ x. IsPermutation ((pair, epoch) ∷ marks_in s) (marks_in (with_slot_at s at.block at.pos x))) same went
 
-  marks_of-marked : (arrays : ArraysView K V) (side : Side) (index : ℕ) (at : Place) (epoch : ℕ) (pair : K × V)
+  tombstones_of-marked : (arrays : ArraysView K V) (side : Side) (index : ℕ) (at : Place) (epoch : ℕ) (pair : K × V)
       → index < length (buckets_on arrays side) → live_pair (slot_in (bucket_on arrays side index) at) ≡ Some pair
-      → IsPermutation ((pair, epoch) ∷ marks_of arrays)
-      (marks_of (arrays_with arrays side index (slots_marked (bucket_on arrays side index) at epoch)))
-  marks_of-marked arrays Current index at epoch pair within here =
+      → IsPermutation ((pair, epoch) ∷ tombstones_of arrays)
+      (tombstones_of (arrays_with arrays side index (slots_marked (bucket_on arrays side index) at epoch)))
+  tombstones_of-marked arrays Current index at epoch pair within here =
       let one = (pair, epoch) ∷ [] in
       regrouped one [] (marks_among arrays.current) _ (marks_among arrays.linked)
       (flat_map-exchanged marks_in one [] arrays.current index _ empty_bucket within (marks_in-marked _ at epoch pair here))
-  marks_of-marked arrays Old index at epoch pair within here =
+  tombstones_of-marked arrays Old index at epoch pair within here =
       let one = (pair, epoch) ∷ [] in
       let front = marks_among arrays.current in
       IsPermutation-trans _ _ _ (rotated one front (marks_among arrays.linked)) (IsPermutation-append_right front _ _
@@ -63,8 +63,8 @@ module _ {K V : Type 0} where
   fresh_marks : (capacity : ℕ) (fresh : List (BucketView K V)) → IsNewArray capacity fresh → marks_among fresh ≡ []
   fresh_marks capacity fresh is = ap (λ (bs : List (BucketView K V)). marks_among bs) is.empty ∙ new_marks (length fresh)
 
-  marks_of-pushed : (capacity : ℕ) (old new : ArraysView K V) → IsPushed capacity old new → marks_of new ≡ marks_of old
-  marks_of-pushed capacity old new pushed = rw (
+  tombstones_of-pushed : (capacity : ℕ) (old new : ArraysView K V) → IsPushed capacity old new → tombstones_of new ≡ tombstones_of old
+  tombstones_of-pushed capacity old new pushed = rw (
     pushed.new_is,
     fresh_marks capacity pushed.fresh pushed.fresh_is,
     nil_from_length old.linked pushed.alone,
@@ -72,24 +72,24 @@ module _ {K V : Type 0} where
   ) refl
 
   -- nothing becomes a tombstone
-  pub none_marked : (arrays : ArraysView K V) → AreEarlierMarks arrays (marks_of arrays)
+  pub none_marked : (arrays : ArraysView K V) → AreEarlierMarks arrays (tombstones_of arrays)
   none_marked arrays = record {
-    earlier = no_new-same (marks_of arrays) (marks_of arrays) refl;
+    earlier = no_new-same (tombstones_of arrays) (tombstones_of arrays) refl;
     current = (on_side arrays Current).stood;
     all = λ none. refl;
   }
 
-module _ {K V H : Type 0} (wants : K → Bool) (hash : ℕ) (old between new : TableView K V H)
+module _ {K V H : Type 0} (matches : K → Bool) (hash : ℕ) (old between new : TableView K V H)
     (prepared : IsPrepared 79 hash old between) where
-  earlier : AreEarlierMarks old.arrays (marks_of between.arrays)
+  earlier : AreEarlierMarks old.arrays (tombstones_of between.arrays)
   earlier = record {
     earlier = prepared.kept.keeps.marks;
     current = (no_new-trans _ _ _ (on_side between.arrays Current)
         (in_buckets old.arrays.current between.arrays.current prepared.kept.order.stay)).stood;
-    all = λ none. ap (λ (t : TableView K V H). marks_of t.arrays) (prepared.alone none);
+    all = λ none. ap (λ (t : TableView K V H). tombstones_of t.arrays) (prepared.alone none);
   }
 
-  stood : (pair : K × V) → IsThere wants (pairs_of between.arrays) pair → IsThere wants (pairs_of old.arrays) pair
+  stood : (pair : K × V) → IsThere matches (pairs_of between.arrays) pair → IsThere matches (pairs_of old.arrays) pair
   stood pair there = (
     Contains-permutation (pairs_of between.arrays) (pairs_of old.arrays) pair
         (IsPermutation-sym (pairs_of old.arrays) (pairs_of between.arrays) prepared.map.pairs) there.0,
@@ -98,39 +98,39 @@ module _ {K V H : Type 0} (wants : K → Bool) (hash : ℕ) (old between new : T
 
   -- the table's removal, that may shrink it
   pub marks_removed : (pairs : ℕ) (removed : Bool)
-      → ShrinksAt wants (λ bucket at. slots_marked bucket at 0) (Some pairs) removed between new
-      → MarksRemoved wants removed old.arrays new.arrays
+      → ShrinksAt matches (λ bucket at. slots_marked bucket at 0) (Some pairs) removed between new
+      → MarksRemoved matches removed old.arrays new.arrays
   marks_removed pairs false same = rw same earlier
   marks_removed pairs true (side, index, at, stands, shrinks) =
       let bucket = slots_marked (bucket_on between.arrays side index) at 0 in
       let mid = arrays_with between.arrays side index bucket in
-      let marks = marks_of-marked between.arrays side index at 0 stands.pair stands.within stands.slot in
-      let adds : marks_of new.arrays ≡ marks_of mid → AddsMark wants old.arrays new.arrays = λ same. record {
+      let marks = tombstones_of-marked between.arrays side index at 0 stands.pair stands.within stands.slot in
+      let adds : tombstones_of new.arrays ≡ tombstones_of mid → AddsMark matches old.arrays new.arrays = λ same. record {
         pair = stands.pair;
         there = stood stands.pair stands.there;
-        earlier = marks_of between.arrays;
+        earlier = tombstones_of between.arrays;
         kept = earlier;
         marks = rw same marks;
       } in
       elim (removed_ends pairs between.arrays side index bucket new.arrays shrinks) [
-        | inl is ↦ inl (adds (ap (λ (a : ArraysView K V). marks_of a) is))
+        | inl is ↦ inl (adds (ap (λ (a : ArraysView K V). tombstones_of a) is))
         | inr (inl gone) ↦ inr (none_left mid new.arrays gone)
-        | inr (inr (capacity, pushed)) ↦ inl (adds (marks_of-pushed capacity mid new.arrays pushed))
+        | inr (inr (capacity, pushed)) ↦ inl (adds (tombstones_of-pushed capacity mid new.arrays pushed))
       ]
 
 -- a resize keeps the tombstones, or leaves no array
 module _ {K V : Type 0} where
-  marks_tried : {E : Type 0} (old mid new : ArraysView K V) (answer : Result Bool E) → marks_of mid ≡ marks_of old
+  marks_tried : {E : Type 0} (old mid new : ArraysView K V) (answer : Result Bool E) → tombstones_of mid ≡ tombstones_of old
       → TriesResize mid answer new → KeepsMarks old new
   marks_tried old mid new answer same tries = elim (tried mid new answer tries) [
-    | inl is ↦ inl (ap (λ (a : ArraysView K V). marks_of a) is ∙ same)
+    | inl is ↦ inl (ap (λ (a : ArraysView K V). tombstones_of a) is ∙ same)
     | inr (inl gone) ↦ inr (none_left mid new gone)
-    | inr (inr (capacity, pushed)) ↦ inl (marks_of-pushed capacity mid new pushed ∙ same)
+    | inr (inr (capacity, pushed)) ↦ inl (tombstones_of-pushed capacity mid new pushed ∙ same)
   ]
 
   pub marks_reserved : (additional answer : ℕ) (old new : ArraysView K V) → Reserves additional old answer new → KeepsMarks old new
   marks_reserved additional answer old new reserves = elim (cases_lt (old.maximum - old.minimum) additional) [
-    | inl much ↦ inl (ap (λ (a : ArraysView K V). marks_of a) (reserves.too_much much).1)
+    | inl much ↦ inl (ap (λ (a : ArraysView K V). tombstones_of a) (reserves.too_much much).1)
     | inr fits ↦
         let done = (reserves.raised fits).1 in
         marks_tried old (with_minimum old (old.minimum + additional)) new done.0 refl done.1
@@ -138,7 +138,7 @@ module _ {K V : Type 0} where
 
   pub marks_released : (released answer : ℕ) (old new : ArraysView K V) → Releases released old answer new → KeepsMarks old new
   marks_released released answer old new releases = elim (cases_lt old.minimum released) [
-    | inl much ↦ inl (ap (λ (a : ArraysView K V). marks_of a) (releases.too_much much).1)
+    | inl much ↦ inl (ap (λ (a : ArraysView K V). tombstones_of a) (releases.too_much much).1)
     | inr fits ↦
         let done = (releases.lowered fits).1 in
         marks_tried old (with_minimum old (old.minimum - released)) new done.0 refl done.1

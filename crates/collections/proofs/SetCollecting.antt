@@ -134,11 +134,10 @@ module _ {K H : Type 0} (eq : K → K → Bool) (laws : IsEquivalence eq) where
       from_before [] between last is = (old, refl, stays_after eq old mid new stays (subst (λ m. Stays eq m new) (sym is) last))
       from_before (k ∷ ks) between last went = (between, (went.0, put_after old mid went.0 stays k went.1, went.2), last)
 
-  -- a set that was made empty, and in which room was made; nothing else is known of it
-  pub keys_into_new : (first ready made : MapView K (Unit {0}) H) (keys : List K) → IsEmpty first → first.minimum ≡ 64
-      → first.maximum ≡ 2 ^ 63 → (first.slots ≡ 0) × (first.old_slots ≡ 0) → first.bucket_lens ≡ [] → Stays eq first ready
-      → PutsKeys eq ready keys made → PutsKeys eq (empty_map made.hasher) keys made
-  keys_into_new first ready made keys empty minimum maximum slots buckets stays puts =
-      let all = stays_then_keys first ready made keys stays puts in
-      subst (λ (h : H). PutsKeys eq (empty_map h) keys made) (sym all.kept.hasher)
-      (subst (λ m. PutsKeys eq m keys made) (new_is first empty minimum maximum slots buckets) all)
+  -- a set that was made empty; nothing else is known of it
+  pub keys_into_new : (first made : MapView K (Unit {0}) H) (keys : List K) → IsEmpty first → first.minimum ≡ 64
+      → first.maximum ≡ 2 ^ 63 → (first.slots ≡ 0) × (first.old_slots ≡ 0) → first.bucket_lens ≡ []
+      → PutsKeys eq first keys made → PutsKeys eq (empty_map made.hasher) keys made
+  keys_into_new first made keys empty minimum maximum slots buckets puts =
+      subst (λ (h : H). PutsKeys eq (empty_map h) keys made) (sym puts.kept.hasher)
+      (subst (λ m. PutsKeys eq m keys made) (new_is first empty minimum maximum slots buckets) puts)

@@ -27,11 +27,12 @@ use Rattle.bucket_table.specs.Resize.Sparse.{IsSparse}
 use Rattle.bucket_table.specs.Resize.Growing.{Grows}
 use Rattle.bucket_table.specs.Views.ArraysView.{ArePlaced, ArraysView, TableView, pairs_of}
 use Rattle.bucket_table.specs.Views.Sides.{arrays_with, bucket_on, buckets_on, with_bucket}
+use Rattle.bucket_table.specs.Resize.Overfull.{IsOverfullBucket}
 use Rattle.bucket_table.specs.declared.arrays.side.Side.{Side}
 use Rattle.bucket_table.specs.declared.arrays.side.Side.TheVariants.{Current, Old}
 use Rattle.bucket_table.specs.declared.hash_table.ResizeRule.TheVariants.{Counted}
-use Rattle.bucket_table.specs.declared.hash_table.NotInserted.{NotInserted}
-use Rattle.bucket_table.specs.declared.hash_table.NotInserted.TheVariants.{Memory, Present}
+use Rattle.bucket_slots.specs.declared.not_inserted.NotInserted.{NotInserted}
+use Rattle.bucket_slots.specs.declared.not_inserted.NotInserted.TheVariants.{Memory, Present}
 use Rattle.bucket_table.proofs.CallerLemmas.{hasher_kept, homed-permutation, homed_here}
 use Rattle.collections.specs.Crowding.{HasAtHome}
 use Rattle.collections.specs.Maps.{MapView, map_of}
@@ -48,6 +49,11 @@ module _ {K V : Type 0} where
   len_with a Current Old i b = refl
   len_with a Old Current i b = refl
   len_with a Old Old i b = length-set a.linked i b
+
+  -- an overfull bucket has a pair for each own slot
+  overfull_len : (bucket : BucketView K V) → IsOverfullBucket bucket → 32 ≤ length (pairs_in bucket)
+  overfull_len bucket (inl many) = omega (arith, many)
+  overfull_len bucket (inr (many, long)) = many
 
   -- an old array stays, or is dropped
   stands_on : {steps : ℕ} {GetsReady : ℕ → Type 0} (old new : ArraysView K V) → WorksUnits steps GetsReady old new
@@ -152,7 +158,8 @@ module _ {K V H : Type 0} (old new : TableView K V H) where
           let same : length between.arrays.linked ≡ length old.arrays.current =
           ap (λ (a : ArraysView K V). length a.linked) grows.pushed.new_is in
           let here : grows.overfull.bucket.index ≡ index = sym (grows.overfull.bucket.home.the_one index (rw same at home.own)) in
-          let many = rw here at grows.overfull.bucket.full in
+          let crowd = rw here at grows.overfull.bucket.full in
+          let many = overfull_len (bucket_at old.arrays.current index) crowd in
           inr (inr (pushed_grows between.arrays index _ old.arrays (overfull_ready hash index old.arrays between.arrays grows) grows.pushed
           long (omega (arith, many)) (full on)))
     ]
@@ -217,16 +224,16 @@ module _ {K V : Type 0} where
   bucket_with a Old i b within = get_or-set_same a.linked i b empty_bucket within
 
 -- a call that changes a place, if a pair matches, after a bucket was prepared
-pub changed_keeps : {K V H : Type 0} (kind hash : ℕ) (old new : TableView K V H) (wants : K → Bool)
+pub changed_keeps : {K V H : Type 0} (kind hash : ℕ) (old new : TableView K V H) (matches : K → Bool)
     (change : BucketView K V → Place → BucketView K V) (is_there : Bool)
-    → PreparesThen kind hash old (λ between. ChangesAt wants change is_there between new)
+    → PreparesThen kind hash old (λ between. ChangesAt matches change is_there between new)
     → KeepsSlots (map_of old) (map_of new)
-changed_keeps {K} {V} {H} kind hash old new wants change true moved =
+changed_keeps {K} {V} {H} kind hash old new matches change true moved =
     let (side, i, at, stands, is) = moved.done in
     prepared_keeps old new kind hash moved.between moved.prepared
     (subst (λ (t : TableView K V H). AreAsLong moved.between.arrays t.arrays) (sym is)
     (as_long_with moved.between.arrays side i (change (bucket_on moved.between.arrays side i) at)))
-changed_keeps {K} {V} {H} kind hash old new wants change false moved =
+changed_keeps {K} {V} {H} kind hash old new matches change false moved =
     prepared_keeps old new kind hash moved.between moved.prepared
     (subst (λ (t : TableView K V H). AreAsLong moved.between.arrays t.arrays) (sym moved.done) (as_long moved.between.arrays))
 
@@ -235,32 +242,32 @@ min_with a Current i b = refl
 min_with a Old i b = refl
 
 -- one pair less if one was removed
-pub fewer_taken : {K V H : Type 0} (kind : ℕ) (wants : K → Bool) (old new : TableView K V H) (r : Option (K × V))
-    → Takes wants (state_of kind old) r (state_of kind new) → is_some r ≡ true
+pub fewer_taken : {K V H : Type 0} (kind : ℕ) (matches : K → Bool) (old new : TableView K V H) (r : Option (K × V))
+    → Takes matches (state_of kind old) r (state_of kind new) → is_some r ≡ true
     → length (pairs_of old.arrays) ≡ suc (length (pairs_of new.arrays))
-fewer_taken kind wants old new (Some pair) x is =
+fewer_taken kind matches old new (Some pair) x is =
     omega (arith, length_permutation (pairs_of old.arrays) (pair ∷ pairs_of new.arrays) x.1.pairs)
-fewer_taken kind wants old new None x is = absurd cc
+fewer_taken kind matches old new None x is = absurd cc
 
-pub fewer_marked : {K V H R : Type 0} (kind : ℕ) (wants : K → Bool) (reads : Bor K → Bor V → R → Type 0) (old new : TableView K V H)
-    (r : Option R) → Marks wants reads (state_of kind old) r (state_of kind new) → is_some r ≡ true
+pub fewer_marked : {K V H R : Type 0} (kind : ℕ) (matches : K → Bool) (reads : Bor K → Bor V → R → Type 0) (old new : TableView K V H)
+    (r : Option R) → Marks matches reads (state_of kind old) r (state_of kind new) → is_some r ≡ true
     → length (pairs_of old.arrays) ≡ suc (length (pairs_of new.arrays))
-fewer_marked kind wants reads old new (Some answer) (own, value, read, wanted, x) is =
+fewer_marked kind matches reads old new (Some answer) (own, value, read, wanted, x) is =
     omega (arith, length_permutation (pairs_of old.arrays) ((own.now, value.now) ∷ pairs_of new.arrays) x.pairs)
-fewer_marked kind wants reads old new None x is = absurd cc
+fewer_marked kind matches reads old new None x is = absurd cc
 
 -- a call that removes a pair if one matches, after a bucket was prepared
-pub taken_loses : {K V H : Type 0} (kind hash : ℕ) (old new : TableView K V H) (wants : K → Bool)
+pub taken_loses : {K V H : Type 0} (kind hash : ℕ) (old new : TableView K V H) (matches : K → Bool)
     (change : BucketView K V → Place → BucketView K V) (is_there : Bool)
     → (0 < length old.arrays.current → IsLength (length old.arrays.current))
     → (is_there ≡ true → length (pairs_of old.arrays) ≡ suc (length (pairs_of new.arrays)))
-    → PreparesThen kind hash old (λ between. ShrinksAt wants change (pairs_left Counted old.arrays) is_there between new)
+    → PreparesThen kind hash old (λ between. ShrinksAt matches change (pairs_left Counted old.arrays) is_there between new)
     → LosesSlots is_there (map_of old) (map_of new)
 unfolding LosesSlots
-taken_loses {K} {V} {H} kind hash old new wants change false long fewer moved =
+taken_loses {K} {V} {H} kind hash old new matches change false long fewer moved =
     prepared_keeps old new kind hash moved.between moved.prepared
     (subst (λ (t : TableView K V H). AreAsLong moved.between.arrays t.arrays) (sym moved.done) (as_long moved.between.arrays))
-taken_loses {K} {V} {H} kind hash old new wants change true long fewer moved = from moved.done
+taken_loses {K} {V} {H} kind hash old new matches change true long fewer moved = from moved.done
   where
     between : ArraysView K V
     between = moved.between.arrays
@@ -268,7 +275,7 @@ taken_loses {K} {V} {H} kind hash old new wants change true long fewer moved = f
     pairs : ℕ
     pairs = counted_to (pairs_of old.arrays) - 1
 
-    from : ShrinksAt wants change (Some pairs) true moved.between new
+    from : ShrinksAt matches change (Some pairs) true moved.between new
         → KeepsSlots (map_of old) (map_of new) ⊎ ShrinksSlots (map_of old) (map_of new)
     from (side, i, at, stands, shrinks) = by shrinks
       where
@@ -318,13 +325,13 @@ taken_loses {K} {V} {H} kind hash old new wants change true long fewer moved = f
             ]
 
 -- a call that writes a value if a pair matches
-pub written_keeps : {K V H : Type 0} (kind hash : ℕ) (old new : TableView K V H) (wants : K → Bool) (is_there : Bool)
-    → PreparesThen kind hash old (λ between. WritesAt wants is_there between new) → KeepsSlots (map_of old) (map_of new)
-written_keeps kind hash old new wants true moved =
-    changed_keeps kind hash old new wants (λ bucket at. bucket_with_value bucket at moved.done.0) true
+pub written_keeps : {K V H : Type 0} (kind hash : ℕ) (old new : TableView K V H) (matches : K → Bool) (is_there : Bool)
+    → PreparesThen kind hash old (λ between. WritesAt matches is_there between new) → KeepsSlots (map_of old) (map_of new)
+written_keeps kind hash old new matches true moved =
+    changed_keeps kind hash old new matches (λ bucket at. bucket_with_value bucket at moved.done.0) true
     (record { between = moved.between; prepared = moved.prepared; done = moved.done.1 })
-written_keeps kind hash old new wants false moved =
-    changed_keeps kind hash old new wants (λ bucket at. bucket) false
+written_keeps kind hash old new matches false moved =
+    changed_keeps kind hash old new matches (λ bucket at. bucket) false
     (record { between = moved.between; prepared = moved.prepared; done = moved.done })
 
 module _ {K V H : Type 0} (hash_of : H → K → ℕ) (key : K) where
@@ -366,7 +373,7 @@ slots_same old new slots old_slots = record { slots = slots; old_slots = inl old
 
 module _ {K V H : Type 0} (hash_of : H → K → ℕ) (key : K) (old new : TableView K V H) (placed : ArePlaced (hash_of new.hasher) new.arrays)
     (beside : 0 < length new.arrays.linked → 0 < length new.arrays.current) where
-  -- that many pairs in a home, of which some came, and the others were present
+  -- that many pairs in a home, of which some were added, and the others were present
   pub nearly : (count came : ℕ) (side : Side) (index len : ℕ) → old.hasher ≡ new.hasher → length (buckets_on new.arrays side) ≡ len
       → IsHome len (hash_of old.hasher key) index → count + came ≤ length (pairs_in (bucket_on new.arrays side index))
       → homed_len (hash_of old.hasher) ((32 * len) / 32) (home_of ((32 * len) / 32) (hash_of old.hasher key)) (pairs_of new.arrays)

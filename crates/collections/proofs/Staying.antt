@@ -31,15 +31,15 @@ module _ {K V H : Type 0} (eq : K → K → Bool) (old between new : MapView K V
     kept = keeps_after added.kept;
   }
 
-  pub replaces_after : (wants : K → Bool) → get_by wants between ≡ get_by wants old → (p : K × V) (v : V)
-      → Replaces eq between wants p v new → Replaces eq old wants p v new
-  replaces_after wants gets p v replaced = record {
+  pub replaces_after : (matches : K → Bool) → get_by matches between ≡ get_by matches old → (p : K × V) (v : V)
+      → Replaces eq between matches p v new → Replaces eq old matches p v new
+  replaces_after matches gets p v replaced = record {
     same = replaced.same;
     value = sym gets ∙ replaced.value;
     rest = replaced.rest;
     before = IsPermutation-trans old.entries between.entries (p ∷ replaced.rest) first.entries replaced.before;
     after = replaced.after;
     len = replaced.len ∙ first.len;
-    updates = λ q. replaced.updates q ∙ ap (λ (o : Option V). cond (wants q) (Some v) o) (first.gets q);
+    updates = λ q. replaced.updates q ∙ ap (λ (o : Option V). cond (matches q) (Some v) o) (first.gets q);
     kept = keeps_after replaced.kept;
   }

@@ -8,7 +8,7 @@ use Rattle.bucket_slots.specs.Marking.{HasNoNewMark}
 use Rattle.bucket_slots.specs.Slots.{Slot, free, is_free, live, marked, marked_entry, slot_at}
 use Rattle.bucket_slots.proofs.CallerLemmas.{no_new-at, no_new-front, no_new-rest}
 use Rattle.bucket_table.specs.Rehash.Relocation.{KeepsPlaces, marks_among}
-use Rattle.bucket_table.specs.Views.ArraysView.{ArraysView, marks_of}
+use Rattle.bucket_table.specs.Views.ArraysView.{ArraysView, tombstones_of}
 use Rattle.bucket_table.specs.Views.Sides.{buckets_on}
 use Rattle.bucket_table.specs.declared.arrays.side.Side.{Side}
 use Rattle.bucket_table.specs.declared.arrays.side.Side.TheVariants.{Current, Old}
@@ -54,6 +54,6 @@ module _ {K V : Type 0} where
   }
 
   -- the tombstones of one array are tombstones
-  pub on_side : (arrays : ArraysView K V) (side : Side) → HasNoNewMark (marks_of arrays) (marks_among (buckets_on arrays side))
+  pub on_side : (arrays : ArraysView K V) (side : Side) → HasNoNewMark (tombstones_of arrays) (marks_among (buckets_on arrays side))
   on_side arrays Current = no_new-front (marks_among arrays.current) (marks_among arrays.linked)
   on_side arrays Old = no_new-rest (marks_among arrays.current) (marks_among arrays.linked)

@@ -14,10 +14,10 @@ use Rattle.bucket_table.specs.Map.LookingUp.{IsAbsent}
 use Rattle.bucket_table.specs.Map.MapState.{AddsPair, Becomes, ChangesValue, KeepsPairs, LowersMinimum, TakesPair, state_of}
 use Rattle.bucket_table.specs.Map.ByKey as by_key
 use Rattle.bucket_table.specs.Map.Putting as putting
-use Rattle.bucket_table.specs.declared.hash_table.NotInserted.{NotInserted}
-use Rattle.bucket_table.specs.declared.hash_table.NotInserted.TheVariants.{Present, Memory}
+use Rattle.bucket_slots.specs.declared.not_inserted.NotInserted.{NotInserted}
+use Rattle.bucket_slots.specs.declared.not_inserted.NotInserted.TheVariants.{Present, Memory}
 use Rattle.collections.specs.Maps.{get, map_of}
-use Rattle.collections.specs.Changes.{Adds, Displaces, HandsBack, Inserts, Keeps, Puts, Removes, Replaces, Rewrites, Stays, Takes, Upserts}
+use Rattle.collections.specs.Changes.{Adds, Displaces, ReturnsPair, Inserts, Keeps, Puts, Removes, Replaces, Rewrites, Stays, Takes, Upserts}
 use Rattle.collections.proofs.Lookups.{IsForm, form_absent, form_changed, form_taken, form_there, get_absent, get_there, lookup_added}
 use Rattle.collections.proofs.Lookups.{lookup_permuted, lookup_taken}
 
@@ -59,14 +59,14 @@ module _ {K V H : Type 0} (eq : K → K → Bool) (laws : IsEquivalence eq) wher
     first_there p rest moved = Contains-permutation (p ∷ rest) (pairs_of t.arrays) p
         (IsPermutation-sym (pairs_of t.arrays) (p ∷ rest) moved) (0, omega arith, refl)
 
-    pub takes : (wants : K → Bool) (alike : IsForm eq wants) (p : K × V) → wants p.0 ≡ true
-        → TakesPair (state_of kind t) p (state_of kind s) → Takes eq (map_of t) wants p (map_of s)
-    takes wants alike p same taken = record {
+    pub takes : (matches : K → Bool) (alike : IsForm eq matches) (p : K × V) → matches p.0 ≡ true
+        → TakesPair (state_of kind t) p (state_of kind s) → Takes eq (map_of t) matches p (map_of s)
+    takes matches alike p same taken = record {
       same = same;
-      value = form_there eq laws wants alike (pairs_of t.arrays) p distinct (first_there p (pairs_of s.arrays) taken.pairs) same;
+      value = form_there eq laws matches alike (pairs_of t.arrays) p distinct (first_there p (pairs_of s.arrays) taken.pairs) same;
       entries = taken.pairs;
       len = let less = length_permutation (pairs_of t.arrays) (p ∷ pairs_of s.arrays) taken.pairs in omega (arith, less);
-      updates = λ q. form_taken eq laws wants alike q p (pairs_of t.arrays) (pairs_of s.arrays) distinct taken.pairs same;
+      updates = λ q. form_taken eq laws matches alike q p (pairs_of t.arrays) (pairs_of s.arrays) distinct taken.pairs same;
       kept = record {
         unique = after;
         hasher = ap (λ z. z.hasher) taken.others;
@@ -75,19 +75,19 @@ module _ {K V H : Type 0} (eq : K → K → Bool) (laws : IsEquivalence eq) wher
       };
     }
 
-    pub replaces : (wants : K → Bool) (alike : IsForm eq wants) (p : K × V) (v : V) → wants p.0 ≡ true
-        → ChangesValue (state_of kind t) p v (state_of kind s) → Replaces eq (map_of t) wants p v (map_of s)
-    replaces wants alike p v same changed =
+    pub replaces : (matches : K → Bool) (alike : IsForm eq matches) (p : K × V) (v : V) → matches p.0 ≡ true
+        → ChangesValue (state_of kind t) p v (state_of kind s) → Replaces eq (map_of t) matches p v (map_of s)
+    replaces matches alike p v same changed =
         let before = length_permutation (pairs_of t.arrays) (p ∷ changed.rest) changed.before in
         let later = length_permutation ((p.0, v) ∷ changed.rest) (pairs_of s.arrays) changed.after.pairs in
         record {
           same = same;
-          value = form_there eq laws wants alike (pairs_of t.arrays) p distinct (first_there p changed.rest changed.before) same;
+          value = form_there eq laws matches alike (pairs_of t.arrays) p distinct (first_there p changed.rest changed.before) same;
           rest = changed.rest;
           before = changed.before;
           after = changed.after.pairs;
           len = omega (arith, before, later);
-          updates = λ q. form_changed eq laws wants alike q p v changed.rest (pairs_of t.arrays) (pairs_of s.arrays) distinct
+          updates = λ q. form_changed eq laws matches alike q p v changed.rest (pairs_of t.arrays) (pairs_of s.arrays) distinct
               changed.before changed.after.pairs same;
           kept = kept changed.after;
         }
@@ -95,8 +95,8 @@ module _ {K V H : Type 0} (eq : K → K → Bool) (laws : IsEquivalence eq) wher
     pub absent : (k : K) → IsAbsent (λ own. eq own k) (pairs_of t.arrays) → get eq (map_of t) k ≡ None
     absent k none = get_absent eq laws k (pairs_of t.arrays) none
 
-    handed_back : (k : K) (v : V) (why : NotInserted K V) → by_key.HandsBack eq k v (pairs_of t.arrays) why
-        → HandsBack eq k v (map_of t) why
+    handed_back : (k : K) (v : V) (why : NotInserted K V) → by_key.ReturnsPair eq k v (pairs_of t.arrays) why
+        → ReturnsPair eq k v (map_of t) why
     handed_back k v (Present a b) x = (x.0, x.1, rw (get_there eq laws k (pairs_of t.arrays) x.2.0 distinct x.2.1) refl)
     handed_back k v (Memory a b) x = (x.0, x.1, absent k x.2)
 
@@ -130,10 +130,10 @@ module _ {K V H : Type 0} (eq : K → K → Bool) (laws : IsEquivalence eq) wher
     puts k v (Ok (Some gone)) done = displaces gone k v done.0 done.1
     puts k v (Err why) done = (handed_back k v why done.0, stays done.1)
 
-    pub removes : (wants : K → Bool) (alike : IsForm eq wants) (r : Option (K × V))
-        → by_key.Takes wants (state_of kind t) r (state_of kind s) → Removes eq wants (map_of t) r (map_of s)
-    removes wants alike (Some p) done = takes wants alike p done.0 done.1
-    removes wants alike None done = (form_absent wants (pairs_of t.arrays) done.0, stays done.1)
+    pub removes : (matches : K → Bool) (alike : IsForm eq matches) (r : Option (K × V))
+        → by_key.Takes matches (state_of kind t) r (state_of kind s) → Removes eq matches (map_of t) r (map_of s)
+    removes matches alike (Some p) done = takes matches alike p done.0 done.1
+    removes matches alike None done = (form_absent matches (pairs_of t.arrays) done.0, stays done.1)
 
     pub upserts : (k : K) (v : V) (r : Result (Option V) (K × V)) → by_key.Upserts eq k v (state_of kind t) r (state_of kind s)
         → Upserts eq k v (map_of t) (as_failed r) (map_of s)
@@ -142,12 +142,12 @@ module _ {K V H : Type 0} (eq : K → K → Bool) (laws : IsEquivalence eq) wher
         (done.0, replaces (eq k) (laws.congr k) (done.0, earlier) v (laws.symm k done.0 ∙ done.1) done.2)
     upserts k v (Err back) done = (done.0, absent k done.1, stays done.2)
 
-    pub rewrites : {R : Type 0} (changes : Bor K → MutBor V → R → MutBor V → Type 0) (wants : K → Bool) (alike : IsForm eq wants)
-        (r : Option R) → by_key.Rewrites wants changes (state_of kind t) r (state_of kind s)
-        → Rewrites eq wants changes (map_of t) r (map_of s)
-    rewrites changes wants alike (Some answer) done =
-        (done.0, done.1, done.2, done.3, replaces wants alike (done.0.now, done.1.now) done.2.now done.4 done.5)
-    rewrites changes wants alike None done = (form_absent wants (pairs_of t.arrays) done.0, stays done.1)
+    pub rewrites : {R : Type 0} (changes : Bor K → MutBor V → R → MutBor V → Type 0) (matches : K → Bool) (alike : IsForm eq matches)
+        (r : Option R) → by_key.Rewrites matches changes (state_of kind t) r (state_of kind s)
+        → Rewrites eq matches changes (map_of t) r (map_of s)
+    rewrites changes matches alike (Some answer) done =
+        (done.0, done.1, done.2, done.3, replaces matches alike (done.0.now, done.1.now) done.2.now done.4 done.5)
+    rewrites changes matches alike None done = (form_absent matches (pairs_of t.arrays) done.0, stays done.1)
 
   -- with another minimum
   pub stays_by : (kind : ℕ) (t s : TableView K V H) → IsDistinct eq (keys_of (pairs_of t.arrays))

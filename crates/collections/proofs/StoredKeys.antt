@@ -46,22 +46,22 @@ module _ {K V : Type 0} where
       ap (λ b. cond b (Some p.0) (lookup_key test ps)) (none 0 p (omega arith))
       ∙ key_absent test ps (λ i d below. none (suc i) d (omega arith))
 
-module _ {K V : Type 0} (eq : K → K → Bool) (laws : IsEquivalence eq) (wants : K → Bool) (alike : IsForm eq wants) where
+module _ {K V : Type 0} (eq : K → K → Bool) (laws : IsEquivalence eq) (matches : K → Bool) (alike : IsForm eq matches) where
   -- matching pairs of distinct keys are one pair
-  pub same_pair : (ps : List (K × V)) (p q : K × V) → IsDistinct eq (keys_of ps) → Contains ps p → Contains ps q → wants p.0 ≡ true
-      → wants q.0 ≡ true → p ≡ q
+  pub same_pair : (ps : List (K × V)) (p q : K × V) → IsDistinct eq (keys_of ps) → Contains ps p → Contains ps q → matches p.0 ≡ true
+      → matches q.0 ≡ true → p ≡ q
   same_pair ps p q distinct has_p has_q at_p at_q =
-      let found = key_there eq laws wants alike ps in
+      let found = key_there eq laws matches alike ps in
       let keys : Some p.0 ≡ Some q.0 = sym (found p distinct has_p at_p) ∙ found q distinct has_q at_q in
-      let shows = form_there eq laws wants alike ps in
+      let shows = form_there eq laws matches alike ps in
       let values : Some p.1 ≡ Some q.1 = sym (shows p distinct has_p at_p) ∙ shows q distinct has_q at_q in
       let own : p.0 ≡ q.0 = cc in
       let value : p.1 ≡ q.1 = cc in
       λ i. (own i, value i)
 
   -- the pair that is removed is the one that was present
-  pub taken_there : {H : Type 0} (old new : MapView K V H) (pair : K × V) → Takes eq old wants pair new → (p : K × V) → IsUnique eq old
-      → IsThere wants old.entries p → p ≡ pair
+  pub taken_there : {H : Type 0} (old new : MapView K V H) (pair : K × V) → Takes eq old matches pair new → (p : K × V) → IsUnique eq old
+      → IsThere matches old.entries p → p ≡ pair
   taken_there old new pair taken p unique there =
       let has = Contains-permutation (pair ∷ new.entries) old.entries pair
       (IsPermutation-sym old.entries (pair ∷ new.entries) taken.entries) (0, omega arith, refl) in

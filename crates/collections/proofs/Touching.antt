@@ -31,31 +31,31 @@ use Rattle.collections.proofs.Steps.{replaces, stays}
 use Rattle.collections.proofs.Writing.{placed}
 
 module _ {K V H : Type 0} (eq : K → K → Bool) (laws : IsEquivalence eq) (t b : TableView K V H)
-    (distinct : IsDistinct eq (keys_of (pairs_of t.arrays))) (wants : K → Bool) (alike : IsForm eq wants)
+    (distinct : IsDistinct eq (keys_of (pairs_of t.arrays))) (matches : K → Bool) (alike : IsForm eq matches)
     (keeps : KeepsPairs (state_of 67 t) (state_of 67 b)) where
   pub kept : Stays eq (map_of t) (map_of b)
   kept = stays eq laws 67 t b distinct (distinct_permuted eq laws (pairs_of t.arrays) (pairs_of b.arrays) keeps.pairs distinct) keeps
 
   -- no key matches
-  pub missed : IsAbsent wants (pairs_of b.arrays) → get_by wants (map_of t) ≡ None
-  missed absent = form_absent wants (pairs_of t.arrays) (All-permutation (λ (p : K × V). wants p.0 ≡ false) (pairs_of b.arrays)
+  pub missed : IsAbsent matches (pairs_of b.arrays) → get_by matches (map_of t) ≡ None
+  missed absent = form_absent matches (pairs_of t.arrays) (All-permutation (λ (p : K × V). matches p.0 ≡ false) (pairs_of b.arrays)
       (pairs_of t.arrays) (IsPermutation-sym (pairs_of t.arrays) (pairs_of b.arrays) keeps.pairs) absent)
 
   -- a pair with a matching key is present
-  pub present : (side : Side) (index : ℕ) (at : Place) → StandsAt wants b.arrays side index at → IsSome (get_by wants (map_of t))
+  pub present : (side : Side) (index : ℕ) (at : Place) → StandsAt matches b.arrays side index at → IsSome (get_by matches (map_of t))
   present side index at stands =
-      let there = there_before wants (state_of 67 t) (state_of 67 b) stands.pair keeps stands.there in
-      rw (form_there eq laws wants alike (pairs_of t.arrays) stands.pair distinct there.0 there.1) refl
+      let there = there_before matches (state_of 67 t) (state_of 67 b) stands.pair keeps stands.there in
+      rw (form_there eq laws matches alike (pairs_of t.arrays) stands.pair distinct there.0 there.1) refl
 
   module _ (hash : ℕ) where
     -- there is no pair to touch
-    pub untouched : IsPrepared 67 hash t b → IsTouched eq wants false t b
+    pub untouched : IsPrepared 67 hash t b → IsTouched eq matches false t b
     untouched prepared = record { map = kept; between = b.arrays; carried = prepared_moves hash t b prepared; touched = refl }
 
     module _ (side : Side) (index : ℕ) (at : Place)
-        (moved : PreparesThen 67 hash t (λ between. ChangesPlace wants (slots_touched true) side index at between b))
-        (stands : StandsAt wants b.arrays side index at) where
-      pub touched : IsTouched eq wants true t b
+        (moved : PreparesThen 67 hash t (λ between. ChangesPlace matches (slots_touched true) side index at between b))
+        (stands : StandsAt matches b.arrays side index at) where
+      pub touched : IsTouched eq matches true t b
       touched = record {
         map = kept;
         between = moved.between.arrays;
@@ -64,24 +64,25 @@ module _ {K V H : Type 0} (eq : K → K → Bool) (laws : IsEquivalence eq) (t b
       }
 
       module _ (p : K × V) (here : live_pair (slot_in (bucket_on b.arrays side index) at) ≡ Some p) where
-        there : IsThere wants (pairs_of t.arrays) p
-        there = there_before wants (state_of 67 t) (state_of 67 b) p keeps
-            (found_is wants (pairs_of b.arrays) stands.pair p _ stands.slot here stands.there)
+        there : IsThere matches (pairs_of t.arrays) p
+        there = there_before matches (state_of 67 t) (state_of 67 b) p keeps
+            (found_is matches (pairs_of b.arrays) stands.pair p _ stands.slot here stands.there)
 
         -- its value is what the map has
-        pub shown : Some p.1 ≡ get_by wants (map_of t)
-        shown = sym (form_there eq laws wants alike (pairs_of t.arrays) p distinct there.0 there.1)
+        pub shown : Some p.1 ≡ get_by matches (map_of t)
+        shown = sym (form_there eq laws matches alike (pairs_of t.arrays) p distinct there.0 there.1)
 
         -- another value is written there
         pub replaced : (v : V) (s : TableView K V H) → ChangesValue (state_of 67 b) p v (state_of 67 s)
-            → Replaces eq (map_of t) wants p v (map_of s)
+            → Replaces eq (map_of t) matches p v (map_of s)
         replaced v s changed =
             let whole = then_changed (state_of 67 t) (state_of 67 b) (state_of 67 s) p v keeps changed in
-            replaces eq laws 67 t s distinct (distinct_changed eq laws 67 t distinct wants alike s p v whole) wants alike p v there.1 whole
+            replaces eq laws 67 t s distinct (distinct_changed eq laws 67 t distinct matches alike s p v whole) matches alike p v there.1
+            whole
 
-      -- and where it is
-      pub written_there : (v : V) → IsWritten true wants eq true t (with_value b side index at v)
-      written_there v = placed eq laws t (with_value b side index at v) distinct wants alike hash true moved.between moved.prepared v
+      -- and it is written in the pair's place
+      pub written_there : (v : V) → IsWritten true matches eq true t (with_value b side index at v)
+      written_there v = placed eq laws t (with_value b side index at v) distinct matches alike hash true moved.between moved.prepared v
           (side, index, at, moved.done.0, twice)
         where
           touched_bucket : BucketView K V
@@ -97,10 +98,11 @@ module _ {K V H : Type 0} (eq : K → K → Bool) (laws : IsEquivalence eq) (t b
               (set_again moved.between.arrays side index touched_bucket (bucket_with_value touched_bucket at v))
 
 module _ {K V H : Type 0} (eq : K → K → Bool) (laws : IsEquivalence eq) (t s : TableView K V H)
-    (distinct : IsDistinct eq (keys_of (pairs_of t.arrays))) (wants : K → Bool) (alike : IsForm eq wants) (hash : ℕ) where
+    (distinct : IsDistinct eq (keys_of (pairs_of t.arrays))) (matches : K → Bool) (alike : IsForm eq matches) (hash : ℕ) where
   -- if the value that was lent is written again, its pair was touched and nothing else
-  pub read_touched : (own : K) (value : V) → IsThere wants (pairs_of t.arrays) (own, value) → WritesUnder true wants 67 hash t value value s
-      → IsTouched eq wants true t s
+  pub read_touched : (own : K) (value : V) → IsThere matches (pairs_of t.arrays) (own, value)
+      → WritesUnder true matches 67 hash t value value s
+      → IsTouched eq matches true t s
   read_touched own value there wrote =
       let (side, index, at, stands, is) = wrote.arrays.done in
       let between = wrote.arrays.between in
@@ -109,10 +111,10 @@ module _ {K V H : Type 0} (eq : K → K → Bool) (laws : IsEquivalence eq) (t s
       let changed = wrote.map.2 in
       let kept : KeepsPairs (state_of 67 t) (state_of 67 s) =
       record { pairs = IsPermutation-trans _ _ _ changed.before changed.after.pairs; others = changed.after.others } in
-      let found = there_before wants (state_of 67 t) (state_of 67 between) stands.pair prepared.map stands.there in
+      let found = there_before matches (state_of 67 t) (state_of 67 between) stands.pair prepared.map stands.there in
       let same : stands.pair.1 ≡ value = same_Some stands.pair.1 value
-      (sym (form_there eq laws wants alike (pairs_of t.arrays) stands.pair distinct found.0 found.1)
-      ∙ form_there eq laws wants alike (pairs_of t.arrays) (own, value) distinct there.0 there.1) in
+      (sym (form_there eq laws matches alike (pairs_of t.arrays) stands.pair distinct found.0 found.1)
+      ∙ form_there eq laws matches alike (pairs_of t.arrays) (own, value) distinct there.0 there.1) in
       let again : bucket_with_value left at value ≡ left =
       ap (λ v. bucket_with_value left at v) (sym same) ∙ bucket_with_value-same left at stands.pair stands.slot in
       record {
@@ -122,27 +124,27 @@ module _ {K V H : Type 0} (eq : K → K → Bool) (laws : IsEquivalence eq) (t s
         touched = (side, index, at, stands, ap (λ (z : TableView K V H). z.arrays) (is ∙ ap (λ c. with_bucket between side index c) again));
       }
 
-  touched_at : (r : Bool) (b : TableView K V H) → ChangesAt wants (slots_touched true) r b s
-      → MatchBool r ((side : Side) × (index : ℕ) × (at : Place) × StandsAt wants b.arrays side index at
+  touched_at : (r : Bool) (b : TableView K V H) → ChangesAt matches (slots_touched true) r b s
+      → MatchBool r ((side : Side) × (index : ℕ) × (at : Place) × StandsAt matches b.arrays side index at
       × (s.arrays ≡ arrays_with b.arrays side index (slots_touched true (bucket_on b.arrays side index) at))) (s.arrays ≡ b.arrays)
   touched_at true b (side, index, at, stands, is) = (side, index, at, stands, ap (λ (z : TableView K V H). z.arrays) is)
   touched_at false b same = ap (λ (z : TableView K V H). z.arrays) same
 
   so : (r : Bool) → KeepsPairs (state_of 67 t) (state_of 67 s)
-      → PreparesThen 67 hash t (λ between. ChangesAt wants (slots_touched true) r between s) → IsTouched eq wants r t s
+      → PreparesThen 67 hash t (λ between. ChangesAt matches (slots_touched true) r between s) → IsTouched eq matches r t s
   so r keeps moved = record {
-    map = kept eq laws t s distinct wants alike keeps;
+    map = kept eq laws t s distinct matches alike keeps;
     between = moved.between.arrays;
     carried = prepared_moves hash t moved.between moved.prepared;
     touched = touched_at r moved.between moved.done;
   }
 
   -- the table's touch returns whether the map contains the key
-  pub promoted : (r : Bool) → Touches wants (state_of 67 t) r (state_of 67 s)
-      → PreparesThen 67 hash t (λ between. ChangesAt wants (slots_touched true) r between s)
-      → (r ≡ contains_by wants (map_of t)) × IsTouched eq wants r t s
+  pub promoted : (r : Bool) → Touches matches (state_of 67 t) r (state_of 67 s)
+      → PreparesThen 67 hash t (λ between. ChangesAt matches (slots_touched true) r between s)
+      → (r ≡ contains_by matches (map_of t)) × IsTouched eq matches r t s
   promoted true done moved = (
-    ap is_some (sym (form_there eq laws wants alike (pairs_of t.arrays) done.0.0 distinct done.0.1.0 done.0.1.1)),
+    ap is_some (sym (form_there eq laws matches alike (pairs_of t.arrays) done.0.0 distinct done.0.1.0 done.0.1.1)),
     so true done.1 moved,
   )
-  promoted false done moved = (ap is_some (sym (form_absent wants (pairs_of t.arrays) done.0)), so false done.1 moved)
+  promoted false done moved = (ap is_some (sym (form_absent matches (pairs_of t.arrays) done.0)), so false done.1 moved)

@@ -9,8 +9,8 @@ use Rattle.bucket_table.specs.Map.MapState.{MapState, state_of}
 use Rattle.bucket_table.specs.Map.Preparing.{IsPrepared}
 use Rattle.bucket_table.specs.Map.Putting as putting
 use Rattle.bucket_table.specs.Views.ArraysView.{ArePlaced, TableView, pairs_of}
-use Rattle.bucket_table.specs.declared.hash_table.NotInserted.{NotInserted}
-use Rattle.bucket_table.specs.declared.hash_table.NotInserted.TheVariants.{Memory, Present}
+use Rattle.bucket_slots.specs.declared.not_inserted.NotInserted.{NotInserted}
+use Rattle.bucket_slots.specs.declared.not_inserted.NotInserted.TheVariants.{Memory, Present}
 use Rattle.bucket_table.proofs.CallerLemmas.{then_put}
 use Rattle.collections.specs.CacheUpserts.{PutsVacant}
 use Rattle.collections.specs.Changes.{Puts}

@@ -20,7 +20,7 @@ keys_left true key value kept answers keys is = ap (λ ks. key ∷ ks) is
 keys_left false key value kept answers keys is = is
 
 module _ {S F K V : Type 0} (inside : S → F) (IsKept : S → Type 0) where
-  -- what the closure borrows went over the keys, and what each call keeps is kept
+  -- the function that the closure borrows was called with the keys, and what each call keeps is kept
   pub keys_visited : (step : S → Bor K → Bor V → S → Type 0) (R : F → K → F → Type 0)
       → (says : (s : S) (own : Bor K) (value : Bor V) (t : S) → IsKept s → step s own value t → IsKept t × R (inside s) own.now (inside t))
       → (first : S) (pairs : List (K × V)) (last : S) → IsKept first → CallsEach step first pairs last

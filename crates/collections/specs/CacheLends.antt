@@ -14,9 +14,9 @@ module _ (K V H : RattleType) (equal : equals.Ghosts K.Denot) (hashing : key_has
   -- changes by the relation `Becomes`, which takes whether the key is present
   abbrev pub LendsValue : (K.Denot → Bool) → Option (MutBor V.Denot)
       → (Bool → TableView K.Denot V.Denot H.Denot → TableView K.Denot V.Denot H.Denot → Type 0) → Fml
-  LendsValue wants loan Becomes =
+  LendsValue matches loan Becomes =
       LendsSo (the_row K V H (record {}) equal hashing) V cache loan
-      (λ new value. IfSome loan (λ lent. ((own : K.Denot) × Replaces equal.eq (map_of cache.now) wants (own, lent.now) value (map_of new))
+      (λ new value. IfSome loan (λ lent. ((own : K.Denot) × Replaces equal.eq (map_of cache.now) matches (own, lent.now) value (map_of new))
       × Becomes true cache.now new))
-      (λ new. IfNone loan ((get_by wants (map_of cache.now) ≡ None) × Stays equal.eq (map_of cache.now) (map_of new)
+      (λ new. IfNone loan ((get_by matches (map_of cache.now) ≡ None) × Stays equal.eq (map_of cache.now) (map_of new)
       × Becomes false cache.now new))

@@ -8,7 +8,7 @@ use Rattle.bucket_table.specs.Views.ArraysView.{TableView}
 use Rattle.collections.specs.contracts.hash_cache.HashCache.{the_row}
 
 module _ (K V H : RattleType) (equal : equals.Ghosts K.Denot) (hashing : key_hash.Ghosts H.Denot K.Denot) where
-  -- it ends as the relation says
+  -- it ends as the relation states
   abbrev pub EndsSo : MutBor (TableView K.Denot V.Denot H.Denot) → (TableView K.Denot V.Denot H.Denot → Type 0) → Fml
   EndsSo cache After =
       let row = the_row K V H (record {}) equal hashing in

@@ -30,6 +30,11 @@ module _ {K V H : Type 0} where
     pub alone : map.old_slots ≡ 0
     pub enough : IsTooFull map.slots (map_len map + more) → ⊥
 
+  -- the pairs stay, and there are no fewer slots
+  pub record GainsRoom (eq : K → K → Bool) (old new : MapView K V H) : Type 0 where
+    pub stays : Stays eq old new
+    pub no_fewer : old.slots ≤ new.slots
+
   -- there is no old array, and there are the fewest slots for some pairs, or as many as before
   pub record TakesSlots (pairs : ℕ) (old new : MapView K V H) : Type 0 where
     pub alone : new.old_slots ≡ 0

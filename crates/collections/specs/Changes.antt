@@ -6,8 +6,8 @@ use Rattle.std.specs.List.Sorted.{IsPermutation}
 use Rattle.std.specs.declared.alloc.AllocFailed.{AllocFailed}
 use Rattle.collections.specs.Maps.{MapView, IsUnique, get, get_by, map_len}
 use Rattle.bucket_table.specs.Walking.Retains.{RetainsEach}
-use Rattle.bucket_table.specs.declared.hash_table.NotInserted.{NotInserted}
-use Rattle.bucket_table.specs.declared.hash_table.NotInserted.TheVariants.{Present, Memory}
+use Rattle.bucket_slots.specs.declared.not_inserted.NotInserted.{NotInserted}
+use Rattle.bucket_slots.specs.declared.not_inserted.NotInserted.TheVariants.{Present, Memory}
 
 module _ {K V H : Type 0} (eq : K → K → Bool) where
   -- no two keys of the new map are equal, and the hasher and the two capacities stay
@@ -19,7 +19,7 @@ module _ {K V H : Type 0} (eq : K → K → Bool) where
 
   -- each matching key has the value (`None`: the map does not contain the key), and each other key has what it had
   abbrev pub Updates : MapView K V H → (K → Bool) → Option V → MapView K V H → Type 0
-  Updates old wants value new = (other : K) → get eq new other ≡ cond (wants other) value (get eq old other)
+  Updates old matches value new = (other : K) → get eq new other ≡ cond (matches other) value (get eq old other)
 
   -- the pairs stay, in some order, and so each key has the value that it had
   pub record Stays (old new : MapView K V H) : Type 0 where
@@ -37,28 +37,28 @@ module _ {K V H : Type 0} (eq : K → K → Bool) where
     pub kept : Keeps old new
 
   -- the pair whose key matches is removed
-  pub record Takes (old : MapView K V H) (wants : K → Bool) (pair : K × V) (new : MapView K V H) : Type 0 where
-    pub same : wants pair.0 ≡ true
-    pub value : get_by wants old ≡ Some pair.1
+  pub record Takes (old : MapView K V H) (matches : K → Bool) (pair : K × V) (new : MapView K V H) : Type 0 where
+    pub same : matches pair.0 ≡ true
+    pub value : get_by matches old ≡ Some pair.1
     pub entries : IsPermutation old.entries (pair ∷ new.entries)
     pub len : map_len new + 1 ≡ map_len old
-    pub updates : Updates old wants None new
+    pub updates : Updates old matches None new
     pub kept : Keeps old new
 
   -- the value of the matching key is another one, and the key stays
-  pub record Replaces (old : MapView K V H) (wants : K → Bool) (pair : K × V) (later : V) (new : MapView K V H) : Type 0 where
-    pub same : wants pair.0 ≡ true
-    pub value : get_by wants old ≡ Some pair.1
+  pub record Replaces (old : MapView K V H) (matches : K → Bool) (pair : K × V) (later : V) (new : MapView K V H) : Type 0 where
+    pub same : matches pair.0 ≡ true
+    pub value : get_by matches old ≡ Some pair.1
     pub rest : List (K × V)
     pub before : IsPermutation old.entries (pair ∷ rest)
     pub after : IsPermutation ((pair.0, later) ∷ rest) new.entries
     pub len : map_len new ≡ map_len old
-    pub updates : Updates old wants (Some later) new
+    pub updates : Updates old matches (Some later) new
     pub kept : Keeps old new
 
   -- the value of some matching key is another one
   abbrev pub Holds : (K → Bool) → MapView K V H → V → V → MapView K V H → Type 0
-  Holds wants old before later new = (own : K) × Replaces old wants (own, before) later new
+  Holds matches old before later new = (own : K) × Replaces old matches (own, before) later new
 
   -- a pair is inserted, whose key was absent, and another is removed
   pub record Displaces (old : MapView K V H) (gone : K × V) (key : K) (value : V) (new : MapView K V H) : Type 0 where
@@ -73,21 +73,21 @@ module _ {K V H : Type 0} (eq : K → K → Bool) where
 
 module _ {K V H : Type 0} (eq : K → K → Bool) (key : K) where
   -- why a pair that wasn't inserted is returned: an equal key is present, or allocation failed and none is present
-  abbrev pub HandsBack : V → MapView K V H → NotInserted K V → Type 0
-  HandsBack value map (Present k v) = (k ≡ key) × (v ≡ value) × IsSome (get eq map key)
-  HandsBack value map (Memory k v) = (k ≡ key) × (v ≡ value) × (get eq map key ≡ None)
+  abbrev pub ReturnsPair : V → MapView K V H → NotInserted K V → Type 0
+  ReturnsPair value map (Present k v) = (k ≡ key) × (v ≡ value) × IsSome (get eq map key)
+  ReturnsPair value map (Memory k v) = (k ≡ key) × (v ≡ value) × (get eq map key ≡ None)
 
   -- a pair is inserted if its key is absent; else, and if allocation fails, it is returned and nothing changes
   abbrev pub Inserts : {A : Type 0} → V → MapView K V H → Result A (NotInserted K V) → MapView K V H → Type 0
   Inserts value old (Ok done) new = Adds eq old key value new
-  Inserts value old (Err why) new = HandsBack value old why × Stays eq old new
+  Inserts value old (Err why) new = ReturnsPair value old why × Stays eq old new
 
   -- a pair is inserted if its key is absent, and the evicted pair, if any, is returned; else, and if allocation fails, the pair itself is
   -- returned and nothing changes
   abbrev pub Puts : V → MapView K V H → Result (Option (K × V)) (NotInserted K V) → MapView K V H → Type 0
   Puts value old (Ok None) new = Adds eq old key value new
   Puts value old (Ok (Some gone)) new = Displaces eq old gone key value new
-  Puts value old (Err why) new = HandsBack value old why × Stays eq old new
+  Puts value old (Err why) new = ReturnsPair value old why × Stays eq old new
 
   -- a pair is inserted, or its value replaces that of the present key, and the earlier value is returned; if allocation fails, the pair is
   -- returned and its key is absent
@@ -96,33 +96,33 @@ module _ {K V H : Type 0} (eq : K → K → Bool) (key : K) where
   Upserts value old (Ok (Some earlier)) new = (own : K) × Replaces eq old (eq key) (own, earlier) value new
   Upserts value old (Err back) new = (back.value ≡ (key, value)) × (get eq old key ≡ None) × Stays eq old new
 
-module _ {K V H : Type 0} (eq : K → K → Bool) (wants : K → Bool) where
+module _ {K V H : Type 0} (eq : K → K → Bool) (matches : K → Bool) where
   -- the pair whose key matches is removed and returned; `None` exactly if no key matches
   abbrev pub Removes : MapView K V H → Option (K × V) → MapView K V H → Type 0
-  Removes old (Some pair) new = Takes eq old wants pair new
-  Removes old None new = (get_by wants old ≡ None) × Stays eq old new
+  Removes old (Some pair) new = Takes eq old matches pair new
+  Removes old None new = (get_by matches old ≡ None) × Stays eq old new
 
   -- the pair whose key matches is removed, and the result is whether there was one
   abbrev pub TakesOut : MapView K V H → Bool → MapView K V H → Type 0
-  TakesOut old true new = (pair : K × V) × Takes eq old wants pair new
-  TakesOut old false new = (get_by wants old ≡ None) × Stays eq old new
+  TakesOut old true new = (pair : K × V) × Takes eq old matches pair new
+  TakesOut old false new = (get_by matches old ≡ None) × Stays eq old new
 
   -- the pair whose key matches is read and then removed; the result is `None` exactly if no key matches
   abbrev pub ReadsOut : {R : Type 0} → (Bor K → Bor V → R → Type 0) → MapView K V H → Option R → MapView K V H → Type 0
   ReadsOut reads old (Some answer) new =
-      (own : Bor K) × (value : Bor V) × reads own value answer × Takes eq old wants (own.now, value.now) new
-  ReadsOut reads old None new = (get_by wants old ≡ None) × Stays eq old new
+      (own : Bor K) × (value : Bor V) × reads own value answer × Takes eq old matches (own.now, value.now) new
+  ReadsOut reads old None new = (get_by matches old ≡ None) × Stays eq old new
 
   -- the value of the matching key is lent to a call, and is what the call leaves; the result is `None` exactly if no key matches
   abbrev pub Rewrites : {R : Type 0} → (Bor K → MutBor V → R → MutBor V → Type 0) → MapView K V H → Option R → MapView K V H → Type 0
   Rewrites changes old (Some answer) new = (own : Bor K) × (before : MutBor V) × (after : MutBor V) × changes own before answer after
-      × Replaces eq old wants (own.now, before.now) after.now new
-  Rewrites changes old None new = (get_by wants old ≡ None) × Stays eq old new
+      × Replaces eq old matches (own.now, before.now) after.now new
+  Rewrites changes old None new = (get_by matches old ≡ None) × Stays eq old new
 
 -- the matching key of a set is removed and returned; `None` exactly if no key matches
 abbrev pub SetRemoves : {K H : Type 0} → (K → K → Bool) → (K → Bool) → MapView K (Unit {0}) H → Option K → MapView K (Unit {0}) H → Type 0
-SetRemoves eq wants old (Some own) new = Takes eq old wants (own, tt) new
-SetRemoves eq wants old None new = (get_by wants old ≡ None) × Stays eq old new
+SetRemoves eq matches old (Some own) new = Takes eq old matches (own, tt) new
+SetRemoves eq matches old None new = (get_by matches old ≡ None) × Stays eq old new
 
 -- a function is called with a key, and with a value lent for writing, which the call may change. No public clause cites it
 abbrev pub Calls : {K V : Type 0} → (Bor K → MutBor V → MutBor V → Type 0) → K → V → V → Type 0

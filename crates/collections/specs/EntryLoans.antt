@@ -27,7 +27,7 @@ still_there {K} {V} test (pair ∷ entries) value there = from (test pair.0) ref
         subst (λ (b : Bool). IsSome (cond b (Some pair.1) (lookup test (set_value test entries value)))) (sym is) (rest there)
 
 module _ {K V H : Type 0} {equal : equals.Ghosts K} {hashing : key_hash.Ghosts H K} where
-  -- an entry after its key got another value
+  -- an entry with another value under its key
   abbrev pub with_entry_value : OccupiedEntry K V H equal hashing → V → OccupiedEntry K V H equal hashing
   with_entry_value place value = record {
     map = record place.map { now = map_with_value (equal.eq place.key) place.map.now value };
@@ -44,7 +44,7 @@ module _ (K V H : RattleType) (equal : equals.Ghosts K.Denot) (hashing : key_has
       (with_entry_value place.now)
 
 module _ {K V H Q : Type 0} {equal : equals.Ghosts K} {hashing : key_hash.Ghosts H K} {form : key_form.Ghosts Q K H} where
-  -- an entry by a form after its key got another value
+  -- an entry by a form with another value under its key
   abbrev pub with_ref_value : OccupiedEntryRef K V H Q equal hashing form → V → OccupiedEntryRef K V H Q equal hashing form
   with_ref_value place value = record {
     map = record place.map { now = map_with_value (form.stands_for place.form) place.map.now value };

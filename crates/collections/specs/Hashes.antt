@@ -3,4 +3,4 @@ use Rattle.std.specs.Prelude.{ℕ, ◌≡◌, Bool, true}
 
 -- each matching key has this hash
 abbrev pub HaveHash : {K : Type 0} → (K → Bool) → (K → ℕ) → ℕ → Type 0
-HaveHash {K} wants hash_of hash = (key : K) → wants key ≡ true → hash_of key ≡ hash
+HaveHash {K} matches hash_of hash = (key : K) → matches key ≡ true → hash_of key ≡ hash

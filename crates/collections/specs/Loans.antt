@@ -14,34 +14,34 @@ abbrev pub Puts : {K V H : Type 0} → (K → K → Bool) → MapView K V H → 
 Puts {K} {V} {H} eq old key value new =
     MatchOption (get eq old key) (Adds eq old key value new) (λ before. (own : K) × Replaces eq old (eq key) (own, before) value new)
 
-module _ {K V H : Type 0} (eq : K → K → Bool) (old : MapView K V H) (wants : K → Bool) (value : V) (new : MapView K V H) where
+module _ {K V H : Type 0} (eq : K → K → Bool) (old : MapView K V H) (matches : K → Bool) (value : V) (new : MapView K V H) where
   -- one more pair, whose key matches
-  pub record AddsWanted : Type 0 where
+  pub record AddsMatched : Type 0 where
     pub key : K
-    pub same : wants key ≡ true
+    pub same : matches key ≡ true
     pub adds : Adds eq old key value new
-    pub updates : Updates eq old wants (Some value) new
+    pub updates : Updates eq old matches (Some value) new
 
   -- the value is under a matching key: one more pair, or with the key that is present
-  pub record PutsWanted : Type 0 where
-    pub cases : MatchOption (get_by wants old) AddsWanted (λ before. (own : K) × Replaces eq old wants (own, before) value new)
-    pub updates : Updates eq old wants (Some value) new
+  pub record PutsMatched : Type 0 where
+    pub cases : MatchOption (get_by matches old) AddsMatched (λ before. (own : K) × Replaces eq old matches (own, before) value new)
+    pub updates : Updates eq old matches (Some value) new
 
 module _ (K V H : RattleType) (equal : equals.Ghosts K.Denot) (hashing : key_hash.Ghosts H.Denot K.Denot)
     (map : MutBor (MapView K.Denot V.Denot H.Denot)) where
   -- the value of the matching key is the last one written through the borrow; if there is none, no key matches and nothing changes; the
   -- slots stay in either case
   abbrev pub LendsValue : (K.Denot → Bool) → Option (MutBor V.Denot) → Fml
-  LendsValue wants loan =
+  LendsValue matches loan =
       LendsSo (the_row K V H (record {}) equal hashing) V map loan
-      (λ new value. IfSome loan (λ lent. (own : K.Denot) × Replaces equal.eq map.now wants (own, lent.now) value new
+      (λ new value. IfSome loan (λ lent. (own : K.Denot) × Replaces equal.eq map.now matches (own, lent.now) value new
       × KeepsSlots map.now new))
-      (λ new. IfNone loan ((get_by wants map.now ≡ None) × Stays equal.eq map.now new × KeepsSlots map.now new))
+      (λ new. IfNone loan ((get_by matches map.now ≡ None) × Stays equal.eq map.now new × KeepsSlots map.now new))
 
   -- the value of the matching key is the last one written through the borrow
   abbrev pub LendsThere : (K.Denot → Bool) → MutBor V.Denot → Fml
-  LendsThere wants lent =
-      Lends (the_row K V H (record {}) equal hashing) V map lent (map_with_value wants map.now)
+  LendsThere matches lent =
+      Lends (the_row K V H (record {}) equal hashing) V map lent (map_with_value matches map.now)
 
   -- one more pair, with the last value written through the borrow; if nothing is borrowed, nothing changes, and allocation may fail; the
   -- slots are those that an insertion leaves
@@ -52,11 +52,11 @@ module _ (K V H : RattleType) (equal : equals.Ghosts K.Denot) (hashing : key_has
       (λ new. Stays equal.eq map.now new × LacksRoom hashing.hash_of key map.now × GrowsSlots hashing.hash_of key map.now new)
 
   -- the same for a matching key; if it doesn't match, nothing is borrowed and nothing changes
-  abbrev pub LendsWanted : {E : Type 0} → (K.Denot → Bool) → K.Denot → Result (MutBor V.Denot) E → Fml
-  LendsWanted wants key loan =
+  abbrev pub LendsMatched : {E : Type 0} → (K.Denot → Bool) → K.Denot → Result (MutBor V.Denot) E → Fml
+  LendsMatched matches key loan =
       LendsSoOk (the_row K V H (record {}) equal hashing) V map loan
-      (λ new value. (wants key ≡ true) × Adds equal.eq map.now key value new × GrowsSlots hashing.hash_of key map.now new)
-      (λ new. Stays equal.eq map.now new × (wants key ≡ true → LacksRoom hashing.hash_of key map.now)
+      (λ new value. (matches key ≡ true) × Adds equal.eq map.now key value new × GrowsSlots hashing.hash_of key map.now new)
+      (λ new. Stays equal.eq map.now new × (matches key ≡ true → LacksRoom hashing.hash_of key map.now)
       × GrowsSlots hashing.hash_of key map.now new)
 
   -- the value under the key is the last one written through the borrow, whether or not the map contained the key; if nothing is borrowed,
@@ -83,25 +83,25 @@ module _ (K V H : RattleType) (equal : equals.Ghosts K.Denot) (hashing : key_has
 
   -- no pair with a matching key is inserted: no such key could be made, or allocation may fail for it
   abbrev pub LacksPair : Type 0 → (K.Denot → Bool) → Type 0
-  LacksPair MayLackKey wants = MayLackKey ⊎ ((key : K.Denot) × (wants key ≡ true) × LacksRoom hashing.hash_of key map.now)
+  LacksPair MayLackKey matches = MayLackKey ⊎ ((key : K.Denot) × (matches key ≡ true) × LacksRoom hashing.hash_of key map.now)
 
   -- the slots stay, or are those that an insertion of a matching key leaves
-  abbrev pub GrowsWanted : (K.Denot → Bool) → MapView K.Denot V.Denot H.Denot → Type 0
-  GrowsWanted wants new = KeepsSlots map.now new
-      ⊎ ((key : K.Denot) × (wants key ≡ true) × GrowsSlots hashing.hash_of key map.now new)
+  abbrev pub GrowsMatched : (K.Denot → Bool) → MapView K.Denot V.Denot H.Denot → Type 0
+  GrowsMatched matches new = KeepsSlots map.now new
+      ⊎ ((key : K.Denot) × (matches key ≡ true) × GrowsSlots hashing.hash_of key map.now new)
 
   -- one more pair, whose key matches, with the last value written through the borrow; if nothing is borrowed, nothing changes, and no key
   -- could be made or allocation may fail
   abbrev pub LendsMade : {E : Type 0} → Type 0 → (K.Denot → Bool) → Result (MutBor V.Denot) E → Fml
-  LendsMade MayLackKey wants loan =
+  LendsMade MayLackKey matches loan =
       LendsSoOk (the_row K V H (record {}) equal hashing) V map loan
-      (λ new value. AddsWanted equal.eq map.now wants value new × GrowsWanted wants new)
-      (λ new. Stays equal.eq map.now new × LacksPair MayLackKey wants × GrowsWanted wants new)
+      (λ new value. AddsMatched equal.eq map.now matches value new × GrowsMatched matches new)
+      (λ new. Stays equal.eq map.now new × LacksPair MayLackKey matches × GrowsMatched matches new)
 
   -- the value under a matching key is the last one written through the borrow, whether or not the map contained one; if nothing is
   -- borrowed, nothing changes, and no key could be made or allocation may fail
-  abbrev pub LendsPutWanted : {E : Type 0} → Type 0 → (K.Denot → Bool) → Result (MutBor V.Denot) E → Fml
-  LendsPutWanted MayLackKey wants loan =
+  abbrev pub LendsPutMatched : {E : Type 0} → Type 0 → (K.Denot → Bool) → Result (MutBor V.Denot) E → Fml
+  LendsPutMatched MayLackKey matches loan =
       LendsSoOk (the_row K V H (record {}) equal hashing) V map loan
-      (λ new value. PutsWanted equal.eq map.now wants value new × GrowsWanted wants new)
-      (λ new. Stays equal.eq map.now new × LacksPair MayLackKey wants × GrowsWanted wants new)
+      (λ new value. PutsMatched equal.eq map.now matches value new × GrowsMatched matches new)
+      (λ new. Stays equal.eq map.now new × LacksPair MayLackKey matches × GrowsMatched matches new)

@@ -19,7 +19,7 @@ use Rattle.bucket_table.specs.Resize.Overfull.{SplitsHome}
 use Rattle.bucket_table.specs.Resize.Resizing.{IsMade}
 use Rattle.bucket_table.specs.Views.ArraysView.{ArraysView, TableView, pairs_of}
 use Rattle.bucket_table.specs.Views.Sides.{arrays_with, bucket_on}
-use Rattle.bucket_table.specs.declared.hash_table.NotInserted.{NotInserted}
+use Rattle.bucket_slots.specs.declared.not_inserted.NotInserted.{NotInserted}
 use Rattle.collections.specs.Changes.{Stays}
 use Rattle.collections.specs.Maps.{map_of}
 
@@ -47,11 +47,11 @@ pub record MovesOn {K V : Type 0} (old new : ArraysView K V) : Type 0 where
 
 -- the map stays; pairs of the old array, if there is one, may move; then the pair whose key matches, if it is present, is touched in its
 -- place, and nothing else changes
-pub record IsTouched {K V H : Type 0} (eq : K → K → Bool) (wants : K → Bool) (is_there : Bool) (old new : TableView K V H) : Type 0 where
+pub record IsTouched {K V H : Type 0} (eq : K → K → Bool) (matches : K → Bool) (is_there : Bool) (old new : TableView K V H) : Type 0 where
   pub map : Stays eq (map_of old) (map_of new)
   pub between : ArraysView K V
   pub carried : MovesOn old.arrays between
-  pub touched : MatchBool is_there ((side : Side) × (index : ℕ) × (at : Place) × StandsAt wants between side index at
+  pub touched : MatchBool is_there ((side : Side) × (index : ℕ) × (at : Place) × StandsAt matches between side index at
       × (new.arrays ≡ arrays_with between side index (slots_touched true (bucket_on between side index) at))) (new.arrays ≡ between)
 
 -- one bucket has changed and nothing else, or its array, which was the only one, is now the old one
@@ -97,13 +97,13 @@ PutsOrKeeps eq pair hash old (Err why) new = LeavesArray old.arrays new
 -- the pair whose key matches leaves its place, if it is present, and nothing else of its array changes; or no array is left, if the minimum
 -- is 0
 abbrev pub Leaves : {K V : Type 0} → (K → Bool) → Bool → ArraysView K V → ArraysView K V → Type 0
-Leaves wants true old new = ((new.minimum ≡ 0) × (new.current ++ new.linked ≡ []))
-    ⊎ ((side : Side) × (index : ℕ) × (at : Place) × StandsAt wants old side index at
+Leaves matches true old new = ((new.minimum ≡ 0) × (new.current ++ new.linked ≡ []))
+    ⊎ ((side : Side) × (index : ℕ) × (at : Place) × StandsAt matches old side index at
     × ReplacesBucket side index (slots_without (bucket_on old side index) at) old new)
-Leaves wants false old new = new ≡ old
+Leaves matches false old new = new ≡ old
 
 -- pairs of the old array, if there is one, may move; then the pair leaves its place
-pub record LeavesPlace {K V : Type 0} (wants : K → Bool) (is_there : Bool) (old new : ArraysView K V) : Type 0 where
+pub record LeavesPlace {K V : Type 0} (matches : K → Bool) (is_there : Bool) (old new : ArraysView K V) : Type 0 where
   pub between : ArraysView K V
   pub carried : MovesOn old between
-  pub left : Leaves wants is_there between new
+  pub left : Leaves matches is_there between new

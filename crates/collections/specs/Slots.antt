@@ -1,17 +1,12 @@
 -- What calls do to the slots of a map.
-use Rattle.std.specs.Prelude.{ℕ, ◌*◌, ◌≡◌, ◌<◌, ◌/◌, ◌&&◌, ◌⊎◌, [], Bool, true, false, if◌then◌else◌, length, nat_eq, nat_le, replicate}
+use Rattle.std.specs.Prelude.{ℕ, ◌*◌, ◌≡◌, ◌<◌, ◌/◌, ◌⊎◌, [], Bool, true, false, length, replicate}
 use Rattle.bucket_slots.specs.Sizing.{IsLengthFor}
 use Rattle.collections.specs.Crowding.{HasAtHome}
 use Rattle.collections.specs.Maps.{MapView}
 
--- the slots that a clear keeps: those of a map without an old array, if they are no more than the minimum
-abbrev pub kept_slots : {K V H : Type 0} → MapView K V H → ℕ
-kept_slots map = if nat_le map.slots map.minimum && nat_eq map.old_slots 0 then map.slots else 0
-
--- the map without its pairs
+-- the map without its pairs; its slots stay
 abbrev pub cleared : {K V H : Type 0} → MapView K V H → MapView K V H
-cleared map =
-    record map { entries = []; slots = kept_slots map; old_slots = 0; bucket_lens = replicate (kept_slots map / 32) 0 }
+cleared map = record map { entries = []; bucket_lens = replicate (length map.bucket_lens) 0 }
 
 module _ {K V H : Type 0} where
   -- the slots stay, and the old ones stay or are dropped
@@ -37,7 +32,7 @@ module _ {K V H : Type 0} where
     pub few : 8 * length new.entries < old.slots
     pub went : (new.old_slots ≡ old.slots) ⊎ ((new.slots ≡ 0) × (new.old_slots ≡ 0))
 
-  -- a removal keeps the slots, or they may shrink if it took a pair out; a caller that needs this definition unfolds it
+  -- a removal keeps the slots, or they may shrink if it removed a pair; a caller that needs this definition unfolds it
   unfoldable pub LosesSlots : Bool → MapView K V H → MapView K V H → Type 0
   LosesSlots true old new = KeepsSlots old new ⊎ ShrinksSlots old new
   LosesSlots false old new = KeepsSlots old new

@@ -14,7 +14,7 @@ pub(crate) fn called_with<K, V, F: FnMut(&K, &mut V)>(f: &mut F, key: &K, value:
 
 /// States that a function of a key and a mutable value may always be called. Does nothing at run
 /// time.
-pub(crate) fn learn_asks<K, V, F: FnMut(&K, &mut V) -> bool>(f: &F)
+pub(crate) fn fact_asks<K, V, F: FnMut(&K, &mut V) -> bool>(f: &F)
     requires callable { F.IsAlwaysCallable f.now }
     ensures { F.IsAlwaysCallable f.now }
 {
@@ -22,7 +22,7 @@ pub(crate) fn learn_asks<K, V, F: FnMut(&K, &mut V) -> bool>(f: &F)
 }
 
 /// States that a function of pairs may always be called. Does nothing at run time.
-pub(crate) fn learn_visits<K, V, F: FnMut(&K, &V)>(f: &F)
+pub(crate) fn fact_visits<K, V, F: FnMut(&K, &V)>(f: &F)
     requires callable { F.IsAlwaysCallable f.now }
     ensures { F.IsAlwaysCallable f.now }
 {

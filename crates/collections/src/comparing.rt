@@ -28,7 +28,7 @@ fn has_within<K: Eq, V: PartialEq, H: KeyHash<K>, L: LruList, const TYPE: u8>(
 ) -> bool
     ensures { result ≡ is_within K.eq V.eq (map_of own.now) (map_of other.now) }
 {
-    own.sound();
+    own.fact_sound();
     own.pairs().all(
         |(key, value): (&K, &V)| -> bool
             ensures { result ≡ option_eq V.eq (Some value.entry.now)

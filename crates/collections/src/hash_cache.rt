@@ -13,7 +13,7 @@ ghost use Rattle.bucket_slots.specs.Walking.{CallsEach};
 ghost use Rattle.bucket_table.specs.Map.Counting.{IsHeldBy};
 ghost use Rattle.bucket_table.specs.Rehash.State.{first_tickets};
 ghost use Rattle.bucket_table.specs.Views.ArraysView.{pairs_of};
-ghost use Rattle.bucket_table.specs.declared.hash_table.NotInserted.TheVariants.{Memory};
+ghost use Rattle.bucket_slots.specs.declared.not_inserted.NotInserted.TheVariants.{Memory};
 ghost use Rattle.collections.specs.Changes.{Puts, Removes};
 ghost use Rattle.collections.specs.Crowding.{LacksBucket};
 ghost use Rattle.collections.specs.Maps.{contains_by, get_by, IsEmpty, map_len, map_of};
@@ -137,7 +137,7 @@ impl<K: Eq, V, H: KeyHash<K>> HashCache<K, V, H> {
     pub fn hasher(&self) -> &H
         ensures { result.now ≡ self.now.hasher }
     {
-        self.room.learn();
+        self.room.fact_fits();
         self.table.hasher()
     }
 
@@ -152,8 +152,8 @@ impl<K: Eq, V, H: KeyHash<K>> HashCache<K, V, H> {
             (self.now.arrays.current ++ self.now.arrays.linked) }
         ensures bounded { 32 * length self.now.arrays.current ≤ self.now.arrays.maximum }
     {
-        self.room.learn();
-        self.table.bounded();
+        self.room.fact_fits();
+        self.table.fact_bounded();
         self.table.bounded_len()
     }
 
@@ -163,7 +163,7 @@ impl<K: Eq, V, H: KeyHash<K>> HashCache<K, V, H> {
     pub fn is_empty(&self) -> bool
         ensures { IsTrue result ↔ IsEmpty (map_of self.now) }
     {
-        self.room.learn();
+        self.room.fact_fits();
         self.table.is_empty()
     }
 
@@ -177,7 +177,7 @@ impl<K: Eq, V, H: KeyHash<K>> HashCache<K, V, H> {
         ensures calls { CallsEach (λ state own value last. F.step state own value tt last) f.old
             (pairs_of self.now.arrays) f.new }
     {
-        self.room.learn();
+        self.room.fact_fits();
         self.table.for_each(f);
     }
 
@@ -193,7 +193,7 @@ impl<K: Eq, V, H: KeyHash<K>> HashCache<K, V, H> {
         ensures calls { CallsEach (λ state own value last. F.step state own value tt last) f.old
             (pairs_in_bucket (map_of self.now) bucket) f.new }
     {
-        self.room.learn();
+        self.room.fact_fits();
         self.table.for_each_in(bucket, f)
     }
 
@@ -203,7 +203,7 @@ impl<K: Eq, V, H: KeyHash<K>> HashCache<K, V, H> {
     pub fn capacity(&self) -> usize
         ensures { result ≡ 32 * length self.now.arrays.current }
     {
-        self.room.learn();
+        self.room.fact_fits();
         self.table.num_slots()
     }
 
@@ -215,7 +215,7 @@ impl<K: Eq, V, H: KeyHash<K>> HashCache<K, V, H> {
     pub fn peek<Q: KeyForm<K, H>>(&self, key: Q) -> Option<&V>
         ensures { option_copied result ≡ get_by (Q.stands_for key) (map_of self.now) }
     {
-        self.room.learn();
+        self.room.fact_fits();
         value_by(&self.table, key)
     }
 
@@ -231,7 +231,7 @@ impl<K: Eq, V, H: KeyHash<K>> HashCache<K, V, H> {
         ensures value { option_map (λ pair. pair.1.now) result
             ≡ get_by (Q.stands_for key) (map_of self.now) }
     {
-        self.room.learn();
+        self.room.fact_fits();
         pair_by(&self.table, key)
     }
 
@@ -261,8 +261,8 @@ impl<K: Eq + Drop, V: Drop, H: KeyHash<K>> HashCache<K, V, H> {
         ensures* ends { sem 𝓛 (EndsSo K.row V.row H.row K.PartialEq H.KeyHash self.entry
             (IsTouched K.eq (Q.stands_for key) (is_some result) self.old)) }
     {
-        self.room.learn();
-        self.table.sound();
+        self.room.fact_fits();
+        self.table.fact_sound();
         let hash = key.hash_by(self.table.hasher());
         match self
             .table
@@ -282,8 +282,8 @@ impl<K: Eq + Drop, V: Drop, H: KeyHash<K>> HashCache<K, V, H> {
         ensures found { result ≡ contains_by (Q.stands_for key) (map_of self.old) }
         ensures touched { IsTouched K.eq (Q.stands_for key) result self.old self.new }
     {
-        self.room.learn();
-        self.table.sound();
+        self.room.fact_fits();
+        self.table.fact_sound();
         let hash = key.hash_by(self.table.hasher());
         self.table.touch_by(hash, &mut FormProbe::<Q, H>::new(key))
     }
@@ -311,15 +311,15 @@ impl<K: Eq + Drop, V: Drop, H: KeyHash<K>> HashCache<K, V, H> {
         ensures memory { result ≡ Err (Memory key value)
             → LacksBucket H.hash_of key (map_of self.old) }
     {
-        self.room.learn();
-        self.table.sound();
+        self.room.fact_fits();
+        self.table.fact_sound();
         let hash = self.table.hash(&key);
         match self
             .table
             .fetch_place(hash, &mut FormProbe::<&K, H>::new(&key))
         {
             Ok(_spot) => {
-                self.table.sound();
+                self.table.fact_sound();
                 return Err(NotInserted::Present(key, value));
             }
             Err(home) => self.put_vacant(home, hash, key, value),
@@ -335,11 +335,11 @@ impl<K: Eq + Drop, V: Drop, H: KeyHash<K>> HashCache<K, V, H> {
         ensures place { LeavesPlace (Q.stands_for key) (is_some result) self.old.arrays
             self.new.arrays }
     {
-        self.room.learn();
-        self.table.sound();
+        self.room.fact_fits();
+        self.table.fact_sound();
         let hash = key.hash_by(self.table.hasher());
         let taken = self.table.take_by(hash, &mut FormProbe::<Q, H>::new(key), ResizeRule::Counted);
-        self.table.sound();
+        self.table.fact_sound();
         taken
     }
 
@@ -351,7 +351,7 @@ impl<K: Eq + Drop, V: Drop, H: KeyHash<K>> HashCache<K, V, H> {
         ensures arrays { self.new.arrays
             ≡ record self.old.arrays { current = []; linked = []; tickets = first_tickets 0 } }
     {
-        self.room.learn();
+        self.room.fact_fits();
         self.table.clear();
     }
 }

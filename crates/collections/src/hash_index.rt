@@ -3,10 +3,11 @@
 //!
 //! Model: the table's own view, since tombstones are no part of a map. The map is `map_of` it, and
 //! answers as std's `HashMap` does; its tombstones, which no look-up, walk or count sees, are
-//! `marks_of` its arrays. Only a removal leaves a tombstone, with epoch 0. An insertion drops those
-//! of its bucket if no own slot there is free and one has a tombstone; while all own slots have
-//! pairs, those of the chain stay. Else a tombstone is dropped with all arrays, if the minimum is
-//! 0, or with the old array, by a call that moves pairs out of it.
+//! `tombstones_of` its arrays. Only a removal leaves a tombstone, with epoch 0. An insertion drops
+//! those of its bucket if no own slot there is free and one has a tombstone. While all own slots
+//! have pairs, those of the chain stay, but if it has 8 blocks, the next insertion there doubles
+//! the slots. Else a tombstone is dropped with all arrays, if the minimum is 0, or with the old
+//! array, by a call that moves pairs out of it.
 //!
 //! Ports scc's `src/hash_index.rs` to an owned index: where scc asks its collector whether a reader
 //! may still see a removed pair, here none can.
@@ -18,8 +19,8 @@ ghost use Rattle.bucket_slots.specs.Marking.{HasNoNewMark, MarksBy};
 ghost use Rattle.bucket_slots.specs.Walking.{CallsEach};
 ghost use Rattle.bucket_table.specs.Map.LookingUp.{IsThere};
 ghost use Rattle.bucket_table.specs.Rehash.State.{first_tickets};
-ghost use Rattle.bucket_table.specs.Views.ArraysView.{marks_of, pairs_of};
-ghost use Rattle.bucket_table.specs.declared.hash_table.NotInserted.TheVariants.{Memory};
+ghost use Rattle.bucket_table.specs.Views.ArraysView.{tombstones_of, pairs_of};
+ghost use Rattle.bucket_slots.specs.declared.not_inserted.NotInserted.TheVariants.{Memory};
 ghost use Rattle.collections.specs.Changes.{Inserts, ReadsOut, Reserves, Stays, TakesOut};
 ghost use Rattle.collections.specs.Crowding.{LacksSlots};
 ghost use Rattle.collections.specs.Maps.{contains_by, get_by, IsEmpty, map_len, map_of};
@@ -37,7 +38,7 @@ mod remove;
 use crate::default_hash::DefaultHash;
 use crate::hash_index::generation::NoneKept;
 use crate::hash_map::NotInserted;
-use crate::homes::learn_refused;
+use crate::homes::fact_refused;
 use crate::key_form::{FormProbe, KeyForm, pair_by, value_by};
 use crate::room::{Fits, TableRoom};
 use crate::sizing::widest;
@@ -77,7 +78,7 @@ impl<K: Eq, V, H: KeyHash<K>> HashIndex<K, V, H> {
     pub fn with_hasher(alloc: Global, hasher: H) -> Self
         requires { IndexFits K.row V.row H.row K.PartialEq H.KeyHash }
         ensures empty { IsEmpty (map_of result) }
-        ensures unmarked { marks_of result.arrays ≡ [] }
+        ensures unmarked { tombstones_of result.arrays ≡ [] }
         ensures hasher { result.hasher ≡ hasher }
         ensures minimum { result.arrays.minimum ≡ 0 }
         ensures maximum { result.arrays.maximum ≡ 2 ^ 63 }
@@ -93,7 +94,7 @@ impl<K: Eq, V, H: KeyHash<K>> HashIndex<K, V, H> {
     pub fn with_minimum(alloc: Global, hasher: H, slots: usize) -> Self
         requires { IndexFits K.row V.row H.row K.PartialEq H.KeyHash }
         ensures empty { IsEmpty (map_of result) }
-        ensures unmarked { marks_of result.arrays ≡ [] }
+        ensures unmarked { tombstones_of result.arrays ≡ [] }
         ensures hasher { result.hasher ≡ hasher }
         ensures minimum { result.arrays.minimum ≡ min slots (2 ^ 63) }
         ensures maximum { result.arrays.maximum ≡ 2 ^ 63 }
@@ -112,7 +113,7 @@ impl<K: Eq, V, H: KeyHash<K>> HashIndex<K, V, H> {
     pub fn hasher(&self) -> &H
         ensures { result.now ≡ self.now.hasher }
     {
-        self.room.learn();
+        self.room.fact_fits();
         self.table.hasher()
     }
 
@@ -122,7 +123,7 @@ impl<K: Eq, V, H: KeyHash<K>> HashIndex<K, V, H> {
     pub fn len(&self) -> usize
         ensures { result ≡ min (map_len (map_of self.now)) (2 ^ 64 - 1) }
     {
-        self.room.learn();
+        self.room.fact_fits();
         self.table.len()
     }
 
@@ -132,7 +133,7 @@ impl<K: Eq, V, H: KeyHash<K>> HashIndex<K, V, H> {
     pub fn is_empty(&self) -> bool
         ensures { IsTrue result ↔ IsEmpty (map_of self.now) }
     {
-        self.room.learn();
+        self.room.fact_fits();
         self.table.is_empty()
     }
 
@@ -142,7 +143,7 @@ impl<K: Eq, V, H: KeyHash<K>> HashIndex<K, V, H> {
     pub fn capacity(&self) -> usize
         ensures { result ≡ 32 * length self.now.arrays.current }
     {
-        self.room.learn();
+        self.room.fact_fits();
         self.table.num_slots()
     }
 
@@ -156,7 +157,7 @@ impl<K: Eq, V, H: KeyHash<K>> HashIndex<K, V, H> {
         ensures calls { CallsEach (λ state own value last. F.step state own value tt last) f.old
             (pairs_of self.now.arrays) f.new }
     {
-        self.room.learn();
+        self.room.fact_fits();
         self.table.for_each(f);
     }
 
@@ -172,7 +173,7 @@ impl<K: Eq, V, H: KeyHash<K>> HashIndex<K, V, H> {
         ensures calls { CallsEach (λ state own value last. F.step state own value tt last) f.old
             (pairs_in_bucket (map_of self.now) bucket) f.new }
     {
-        self.room.learn();
+        self.room.fact_fits();
         self.table.for_each_in(bucket, f)
     }
 
@@ -183,7 +184,7 @@ impl<K: Eq, V, H: KeyHash<K>> HashIndex<K, V, H> {
     pub fn peek<Q: KeyForm<K, H>>(&self, key: Q) -> Option<&V>
         ensures { option_copied result ≡ get_by (Q.stands_for key) (map_of self.now) }
     {
-        self.room.learn();
+        self.room.fact_fits();
         value_by(&self.table, key)
     }
 
@@ -199,7 +200,7 @@ impl<K: Eq, V, H: KeyHash<K>> HashIndex<K, V, H> {
         ensures value { option_map (λ pair. pair.1.now) result
             ≡ get_by (Q.stands_for key) (map_of self.now) }
     {
-        self.room.learn();
+        self.room.fact_fits();
         pair_by(&self.table, key)
     }
 
@@ -229,18 +230,19 @@ impl<K: Eq + Drop, V: Drop, H: KeyHash<K>> HashIndex<K, V, H> {
     #[inline(always)]
     pub fn insert(&mut self, key: K, value: V) -> Result<(), NotInserted<K, V>>
         ensures map { Inserts K.eq key value (map_of self.old) result (map_of self.new) }
-        ensures marks { HasNoNewMark (marks_of self.old.arrays) (marks_of self.new.arrays) }
+        ensures marks { HasNoNewMark (tombstones_of self.old.arrays)
+            (tombstones_of self.new.arrays) }
         ensures slots { GrowsSlots H.hash_of key (map_of self.old) (map_of self.new) }
         ensures memory { result ≡ Err (Memory key value)
             → LacksSlots H.hash_of key self.old self.new }
     {
-        self.room.learn();
-        self.table.sound();
+        self.room.fact_fits();
+        self.table.fact_sound();
         let outcome = self
             .table
             .insert_pair(key, value, &NoneKept, ResizeRule::Counted);
-        learn_refused(&self.table, &outcome);
-        self.table.sound();
+        fact_refused(&self.table, &outcome);
+        self.table.fact_sound();
         outcome
     }
 
@@ -251,7 +253,7 @@ impl<K: Eq + Drop, V: Drop, H: KeyHash<K>> HashIndex<K, V, H> {
     #[inline(always)]
     pub fn remove<Q: KeyForm<K, H>>(&mut self, key: Q) -> bool
         ensures map { TakesOut K.eq (Q.stands_for key) (map_of self.old) result (map_of self.new) }
-        ensures marks { MarksBy 0 (marks_of self.old.arrays) (marks_of self.new.arrays) }
+        ensures marks { MarksBy 0 (tombstones_of self.old.arrays) (tombstones_of self.new.arrays) }
         ensures marked { MarksRemoved (Q.stands_for key) result self.old.arrays self.new.arrays }
         ensures slots { LosesSlots result (map_of self.old) (map_of self.new) }
     {
@@ -276,13 +278,13 @@ impl<K: Eq + Drop, V: Drop, H: KeyHash<K>> HashIndex<K, V, H> {
         ensures map { ReadsOut K.eq (Q.stands_for key)
             (λ own value answer. F.post reader own value answer) (map_of self.old) result
             (map_of self.new) }
-        ensures marks { MarksBy 0 (marks_of self.old.arrays) (marks_of self.new.arrays) }
+        ensures marks { MarksBy 0 (tombstones_of self.old.arrays) (tombstones_of self.new.arrays) }
         ensures marked { MarksRemoved (Q.stands_for key) (is_some result) self.old.arrays
             self.new.arrays }
         ensures slots { LosesSlots (is_some result) (map_of self.old) (map_of self.new) }
     {
-        self.room.learn();
-        self.table.sound();
+        self.room.fact_fits();
+        self.table.fact_sound();
         let hash = key.hash_by(self.table.hasher());
         let outcome = self.table.mark_by(
             hash,
@@ -291,7 +293,7 @@ impl<K: Eq + Drop, V: Drop, H: KeyHash<K>> HashIndex<K, V, H> {
             ResizeRule::Counted,
             reader,
         );
-        self.table.sound();
+        self.table.fact_sound();
         outcome
     }
 
@@ -304,10 +306,10 @@ impl<K: Eq + Drop, V: Drop, H: KeyHash<K>> HashIndex<K, V, H> {
         ensures map { Reserves K.eq additional (map_of self.old) result (map_of self.new) }
         ensures marks { KeepsMarks self.old.arrays self.new.arrays }
     {
-        self.room.learn();
-        self.table.sound();
+        self.room.fact_fits();
+        self.table.fact_sound();
         let raised = self.table.reserve_capacity(additional);
-        self.table.sound();
+        self.table.fact_sound();
         raised
     }
 
@@ -319,11 +321,11 @@ impl<K: Eq + Drop, V: Drop, H: KeyHash<K>> HashIndex<K, V, H> {
         ensures map { Stays K.eq (record (map_of self.old) { minimum = 0 }) (map_of self.new) }
         ensures marks { KeepsMarks self.old.arrays self.new.arrays }
     {
-        self.room.learn();
-        self.table.sound();
+        self.room.fact_fits();
+        self.table.fact_sound();
         let minimum = self.table.minimum_capacity();
         let _ = self.table.release_capacity(minimum);
-        self.table.sound();
+        self.table.fact_sound();
     }
 
     /// Drops all pairs, the tombstones too, and all slots; the hasher and the capacities stay.
@@ -334,7 +336,7 @@ impl<K: Eq + Drop, V: Drop, H: KeyHash<K>> HashIndex<K, V, H> {
         ensures arrays { self.new.arrays
             ≡ record self.old.arrays { current = []; linked = []; tickets = first_tickets 0 } }
     {
-        self.room.learn();
+        self.room.fact_fits();
         self.table.clear();
     }
 }
@@ -345,7 +347,7 @@ impl<K: Eq + Hash, V> HashIndex<K, V, DefaultHash> {
     /// O(1). scc: `HashIndex::new`.
     pub fn new(alloc: Global) -> Self
         ensures empty { IsEmpty (map_of result) }
-        ensures unmarked { marks_of result.arrays ≡ [] }
+        ensures unmarked { tombstones_of result.arrays ≡ [] }
         ensures minimum { result.arrays.minimum ≡ 0 }
         ensures maximum { result.arrays.maximum ≡ 2 ^ 63 }
         ensures slots { (length result.arrays.current ≡ 0) × (length result.arrays.linked ≡ 0) }
@@ -361,7 +363,7 @@ impl<K: Eq + Hash, V> HashIndex<K, V, StdHash<RandomState>> {
     /// O(1). Like std's `new`.
     pub fn with_random_state(alloc: Global, state: RandomState) -> Self
         ensures empty { IsEmpty (map_of result) }
-        ensures unmarked { marks_of result.arrays ≡ [] }
+        ensures unmarked { tombstones_of result.arrays ≡ [] }
         ensures hasher { result.hasher.builder ≡ state }
         ensures minimum { result.arrays.minimum ≡ 0 }
         ensures maximum { result.arrays.maximum ≡ 2 ^ 63 }

@@ -10,7 +10,7 @@ ghost use Rattle.std.specs.Prelude.{min};
 ghost use Rattle.std.specs.Option.{option_copied};
 ghost use Rattle.std.specs.Borrow.{Bor, MutBor};
 ghost use Rattle.bucket_table.specs.Map.LookingUp.{IsThere};
-ghost use Rattle.bucket_table.specs.declared.hash_table.NotInserted.TheVariants.{Memory};
+ghost use Rattle.bucket_slots.specs.declared.not_inserted.NotInserted.TheVariants.{Memory};
 ghost use Rattle.collections.specs.Crowding.{LacksRoom};
 ghost use Rattle.collections.specs.Maps.{contains_by, get_by, IsEmpty, map_len};
 ghost use Rattle.collections.specs.Changes.{Inserts, Removes, Rewrites, Upserts};
@@ -26,7 +26,7 @@ mod remove;
 mod values;
 
 use crate::default_hash::DefaultHash;
-use crate::homes::{learn_homes, learn_refused};
+use crate::homes::{fact_homes, fact_refused};
 use crate::key_form::{FormProbe, KeyForm, value_by};
 use crate::room::{Fits, TableRoom};
 use crate::sizing::LEAST_CAPACITY;
@@ -92,7 +92,7 @@ impl<K: Eq, V, H: KeyHash<K>> HashMap<K, V, H> {
     pub fn hasher(&self) -> &H
         ensures { result.now ≡ self.now.hasher }
     {
-        self.room.learn();
+        self.room.fact_fits();
         self.table.hasher()
     }
 
@@ -100,7 +100,7 @@ impl<K: Eq, V, H: KeyHash<K>> HashMap<K, V, H> {
     ///
     /// O(1). Like the kit's `HashMap::allocator`.
     pub fn allocator(&self) -> Global {
-        self.room.learn();
+        self.room.fact_fits();
         self.table.allocator()
     }
 
@@ -110,7 +110,7 @@ impl<K: Eq, V, H: KeyHash<K>> HashMap<K, V, H> {
     pub fn len(&self) -> usize
         ensures { result ≡ min (map_len self.now) (2 ^ 64 - 1) }
     {
-        self.room.learn();
+        self.room.fact_fits();
         self.table.len()
     }
 
@@ -120,7 +120,7 @@ impl<K: Eq, V, H: KeyHash<K>> HashMap<K, V, H> {
     pub fn is_empty(&self) -> bool
         ensures { IsTrue result ↔ IsEmpty self.now }
     {
-        self.room.learn();
+        self.room.fact_fits();
         self.table.is_empty()
     }
 
@@ -130,7 +130,7 @@ impl<K: Eq, V, H: KeyHash<K>> HashMap<K, V, H> {
     pub fn capacity(&self) -> usize
         ensures { result ≡ self.now.slots }
     {
-        self.room.learn();
+        self.room.fact_fits();
         self.table.num_slots()
     }
 
@@ -141,7 +141,7 @@ impl<K: Eq, V, H: KeyHash<K>> HashMap<K, V, H> {
     pub fn get<Q: KeyForm<K, H>>(&self, key: Q) -> Option<&V>
         ensures { option_copied result ≡ get_by (Q.stands_for key) self.now }
     {
-        self.room.learn();
+        self.room.fact_fits();
         value_by(&self.table, key)
     }
 
@@ -181,11 +181,11 @@ impl<K: Eq + Drop, V: Drop, H: KeyHash<K>> HashMap<K, V, H> {
         ensures slots { GrowsSlots H.hash_of key self.old self.new }
         ensures memory { result ≡ Err (Memory key value) → LacksRoom H.hash_of key self.old }
     {
-        self.room.learn();
-        self.table.sound();
+        self.room.fact_fits();
+        self.table.fact_sound();
         let outcome = self.table.insert_pair(key, value, &(), ResizeRule::Counted);
-        learn_refused(&self.table, &outcome);
-        self.table.sound();
+        fact_refused(&self.table, &outcome);
+        self.table.fact_sound();
         outcome
     }
 
@@ -215,14 +215,14 @@ impl<K: Eq + Drop, V: Drop, H: KeyHash<K>> HashMap<K, V, H> {
         ensures slots { GrowsSlots H.hash_of key self.old self.new }
         ensures memory { OnErr result (LacksRoom H.hash_of key self.old) }
     {
-        self.room.learn();
-        self.table.sound();
+        self.room.fact_fits();
+        self.table.fact_sound();
         let outcome = self.table.upsert(key, value, &(), ResizeRule::Counted);
-        self.table.sound();
+        self.table.fact_sound();
         let earlier = match outcome {
             Ok(earlier) => earlier,
             Err(value) => {
-                learn_homes(&self.table, self.table.hash(&value.0));
+                fact_homes(&self.table, self.table.hash(&value.0));
                 return Err(AllocFailed { value });
             }
         };
@@ -248,28 +248,23 @@ impl<K: Eq + Drop, V: Drop, H: KeyHash<K>> HashMap<K, V, H> {
             self.old result self.new }
         ensures slots { KeepsSlots self.old self.new }
     {
-        self.room.learn();
-        self.table.sound();
+        self.room.fact_fits();
+        self.table.fact_sound();
         let hash = key.hash_by(self.table.hasher());
         let outcome = self
             .table
             .update_by(hash, &mut FormProbe::<Q, H>::new(key), change);
-        self.table.sound();
+        self.table.fact_sound();
         outcome
     }
 
-    /// Drops all pairs. The hasher and the capacities stay, and so do the slots if they are no more
-    /// than the minimum and there are no old ones; else no slots are left.
+    /// Drops all pairs. The hasher, the capacities and the slots stay; `shrink_to_fit` frees them.
     ///
-    /// Never fails. O(slots). scc: `HashMap::clear_sync`.
+    /// Never fails. O(slots). std: `HashMap::clear`. scc: `HashMap::clear_sync`.
     pub fn clear(&mut self)
         ensures { self.new ≡ cleared self.old }
     {
-        self.room.learn();
-        if self.table.has_linked_array() || self.table.num_slots() > self.table.minimum_capacity() {
-            self.table.clear();
-            return;
-        }
+        self.room.fact_fits();
         let mut keep_none = |_key: &K, _value: &mut V|
             ensures { result ≡ false }
         { false };

@@ -7,7 +7,7 @@ ghost use Rattle.std.specs.Prelude.{◌≡◌, ◌<◌, ◌↔◌, ◌-◌, ◌^
 ghost use Rattle.std.specs.Prelude.{length, min, true};
 ghost use Rattle.std.specs.Fn.{CalledAt};
 ghost use Rattle.std.specs.Map.{keys_of};
-ghost use Rattle.bucket_table.specs.declared.hash_table.NotInserted.TheVariants.{Memory};
+ghost use Rattle.bucket_slots.specs.declared.not_inserted.NotInserted.TheVariants.{Memory};
 ghost use Rattle.collections.specs.Changes.{Inserts, SetRemoves};
 ghost use Rattle.collections.specs.Copies.{IsCopy};
 ghost use Rattle.collections.specs.Crowding.{LacksRoom};
@@ -23,7 +23,7 @@ mod iter;
 mod keys;
 mod operators;
 
-use crate::calling::{learn_asks, learn_visits};
+use crate::calling::{fact_asks, fact_visits};
 use crate::default_hash::DefaultHash;
 use crate::hash_map::{HashMap, NotInserted};
 use crate::key_form::KeyForm;
@@ -148,7 +148,7 @@ impl<K: Eq, H: KeyHash<K>> HashSet<K, H> {
         {
             f(key);
         };
-        learn_visits(&visit);
+        fact_visits(&visit);
         self.map.for_each_ref(&mut visit);
     }
 
@@ -170,7 +170,7 @@ impl<K: Eq, H: KeyHash<K>> HashSet<K, H> {
         {
             f(key);
         };
-        learn_visits(&visit);
+        fact_visits(&visit);
         self.map.for_each_in(bucket, &mut visit)
     }
 }
@@ -231,14 +231,13 @@ impl<K: Eq + Drop, H: KeyHash<K>> HashSet<K, H> {
             requires { F.IsAlwaysCallable f.now }
             ensures { CalledAt F.FnMut f.entry.now key.now result f.exit.now }
         { f(key) };
-        learn_asks(&keep);
+        fact_asks(&keep);
         self.map.retain_ref(&mut keep);
     }
 
-    /// Drops all keys. The hasher and the capacities stay, and so do the slots if they are no more
-    /// than the minimum and there are no old ones; else no slots are left.
+    /// Drops all keys. The hasher, the capacities and the slots stay; `shrink_to_fit` frees them.
     ///
-    /// Never fails. O(slots). scc: `HashSet::clear_sync`.
+    /// Never fails. O(slots). std: `HashSet::clear`. scc: `HashSet::clear_sync`.
     pub fn clear(&mut self)
         ensures { self.new ≡ cleared self.old }
     {

@@ -1,6 +1,6 @@
 //! States what is known of the home buckets of a hash after an insertion failed.
 ghost use Rattle.std.specs.Prelude.{◌≡◌, ◌<◌, Err, IfSome, length};
-ghost use Rattle.bucket_table.specs.declared.hash_table.NotInserted.TheVariants.{Memory};
+ghost use Rattle.bucket_slots.specs.declared.not_inserted.NotInserted.TheVariants.{Memory};
 ghost use Rattle.collections.specs.Crowding.{KeepsHome};
 
 use bucket_slots::bucket_array::BucketArray;
@@ -12,7 +12,7 @@ use bucket_table::key_hash::KeyHash;
 ///
 /// O(1). Does nothing if the pair was inserted or its key is present.
 #[inline(always)]
-pub(crate) fn learn_refused<A, K: Eq, V, H: KeyHash<K>, L: LruList, const TYPE: u8>(
+pub(crate) fn fact_refused<A, K: Eq, V, H: KeyHash<K>, L: LruList, const TYPE: u8>(
     table: &HashTable<K, V, H, L, TYPE>,
     outcome: &Result<A, NotInserted<K, V>>,
 )
@@ -26,7 +26,7 @@ pub(crate) fn learn_refused<A, K: Eq, V, H: KeyHash<K>, L: LruList, const TYPE: 
     match outcome {
         Ok(_) => {}
         Err(NotInserted::Present(_, _)) => {}
-        Err(NotInserted::Memory(key, _)) => learn_homes(table, table.hash(key)),
+        Err(NotInserted::Memory(key, _)) => fact_homes(table, table.hash(key)),
     }
 }
 
@@ -34,7 +34,7 @@ pub(crate) fn learn_refused<A, K: Eq, V, H: KeyHash<K>, L: LruList, const TYPE: 
 ///
 /// O(1).
 #[inline(never)]
-pub(crate) fn learn_homes<K: Eq, V, H: KeyHash<K>, L: LruList, const TYPE: u8>(
+pub(crate) fn fact_homes<K: Eq, V, H: KeyHash<K>, L: LruList, const TYPE: u8>(
     table: &HashTable<K, V, H, L, TYPE>,
     hash: u64,
 )
@@ -42,12 +42,12 @@ pub(crate) fn learn_homes<K: Eq, V, H: KeyHash<K>, L: LruList, const TYPE: u8>(
         → KeepsHome TYPE hash table.now.arrays.current }
     ensures old { 0 < length table.now.arrays.linked → KeepsHome TYPE hash table.now.arrays.linked }
 {
-    learn_home(table.array(), hash);
-    learn_home(table.linked_array(), hash);
+    fact_home(table.array(), hash);
+    fact_home(table.linked_array(), hash);
 }
 
 /// States what is known of the home of a hash in an array.
-fn learn_home<K, V, L: LruList, const TYPE: u8>(
+fn fact_home<K, V, L: LruList, const TYPE: u8>(
     array: Option<&BucketArray<K, V, L, TYPE>>,
     hash: u64,
 )
@@ -56,7 +56,7 @@ fn learn_home<K, V, L: LruList, const TYPE: u8>(
     let Some(array) = array else {
         return;
     };
-    array.room();
+    array.fact_room();
     let index = array.bucket_index(hash);
-    array.bucket(index).sound();
+    array.bucket(index).fact_sound();
 }

@@ -117,7 +117,7 @@ impl<Q: Copy, H> FormProbe<Q, H> {
 }
 
 impl<K: Eq, H: KeyHash<K>, Q: KeyForm<K, H>> KeyProbe<K> for FormProbe<Q, H> {
-    ghost wants = { λ probe. Q.stands_for probe.form };
+    ghost matches = { λ probe. Q.stands_for probe.form };
 
     ghost asked = { λ probe. probe.asked };
 
@@ -154,7 +154,7 @@ pub(crate) fn value_hashed<K: Eq, V, H: KeyHash<K>, L: LruList, Q: KeyForm<K, H>
     requires hashed { HaveHash (Q.stands_for form) (H.hash_of table.now.hasher) hash }
     ensures { option_copied result ≡ get_by (Q.stands_for form) (map_of table.now) }
 {
-    table.sound();
+    table.fact_sound();
     match table.peek_entry_by(hash, &mut FormProbe::<Q, H>::new(form)) {
         Some((_, value)) => Some(value),
         None => None,
@@ -178,7 +178,7 @@ pub(crate) fn pair_by<K: Eq, V, H: KeyHash<K>, L: LruList, Q: KeyForm<K, H>, con
     ensures there { IfSome result (λ pair.
         IsThere (Q.stands_for form) (pairs_of table.now.arrays) (pair.0.now, pair.1.now)) }
 {
-    table.sound();
+    table.fact_sound();
     let hash = form.hash_by(table.hasher());
     match table.peek_entry_by(hash, &mut FormProbe::<Q, H>::new(form)) {
         Some((own, value)) => Some((own, value)),
@@ -204,7 +204,7 @@ pub(crate) fn asks<
         (λ own value answer. F.post condition own value answer) (map_of table.now) result }
     ensures unique { IsUnique K.eq (map_of table.now) }
 {
-    table.sound();
+    table.fact_sound();
     match pair_by(table, form) {
         Some((own, value)) => condition(own, value),
         None => false,

@@ -35,7 +35,7 @@ impl<R: Room> Fits<R> {
     }
 
     /// States that the type fits in memory. Does nothing at run time.
-    pub(crate) fn learn(&self)
+    pub(crate) fn fact_fits(&self)
         ensures { R.Fits }
     {
         let _ = &self.of;

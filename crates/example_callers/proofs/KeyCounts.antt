@@ -9,7 +9,7 @@ use Rattle.std.specs.Option.{is_some}
 use Rattle.std.specs.Result.{is_err}
 use Rattle.std.proofs.lemmas.Bool.{cases_Bool}
 use Rattle.std.proofs.lemmas.List.Sums.{count_by-le-length, count_by_more_no, count_by_more_yes}
-use Rattle.bucket_table.specs.declared.hash_table.NotInserted.{NotInserted}
+use Rattle.bucket_slots.specs.declared.not_inserted.NotInserted.{NotInserted}
 use Rattle.collections.specs.Maps.{MapView, IsEmpty, IsUnique, get}
 use Rattle.collections.specs.Changes.{Inserts, Rewrites, Updates}
 use Rattle.example_callers.specs.Counts.{Counts, unless_zero}

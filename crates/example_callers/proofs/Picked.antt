@@ -38,6 +38,6 @@ module _ {S X : Type 0} (asks : S → X → Bool → S → X → Type 0) (test :
         picked_at answer between last y x left kept still picked told.1 told.0
         (λ more asked. picked_by between left picked last more still asked) then_so
 
--- a result that says whether a number is less
+-- a result that is whether a number is less
 pub tells_less : (answer : Bool) (m n : ℕ) → (IsTrue answer → m < n) → (m < n → IsTrue answer) → answer ≡ nat_lt m n
 tells_less answer m n less is = search rules

@@ -1,11 +1,11 @@
--- What a put after a look-up says about the map before both.
+-- What a put after a look-up shows about the map before both.
 use Rattle.std.proofs.Common.{◌≡◌, Bool, false, cond, Option, Some, None, is_some, IsSome, Result, Ok, Err, sym, ap, subst, ◌∙◌}
 use Rattle.std.specs.Borrow.{Bor}
 use Rattle.std.specs.Cmp.{IsEquivalence}
 use Rattle.std.specs.Option.{option_copied, unwrap_or}
 use Rattle.std.proofs.lemmas.Bool.{false≢true}
 use Rattle.std.proofs.lemmas.List.Sorted.{IsPermutation-trans}
-use Rattle.bucket_table.specs.declared.hash_table.NotInserted.{NotInserted}
+use Rattle.bucket_slots.specs.declared.not_inserted.NotInserted.{NotInserted}
 use Rattle.collections.specs.Changes.{Puts, Stays}
 use Rattle.collections.specs.Maps.{MapView, get}
 use Rattle.example_callers.specs.Sessions.{HasSession}

@@ -5,11 +5,11 @@ use Rattle.std.proofs.lemmas.Bool.{cases_lt}
 use Rattle.std.proofs.lemmas.List.Sums.{sum_by-cons}
 use Rattle.bucket_slots.specs.Sizing.{IsTooFull}
 use Rattle.bucket_table.specs.Rehash.Relocation.{home_of}
-use Rattle.bucket_table.specs.declared.hash_table.NotInserted.{NotInserted}
-use Rattle.bucket_table.specs.declared.hash_table.NotInserted.TheVariants.{Memory}
+use Rattle.bucket_slots.specs.declared.not_inserted.NotInserted.{NotInserted}
+use Rattle.bucket_slots.specs.declared.not_inserted.NotInserted.TheVariants.{Memory}
 use Rattle.bucket_table.proofs.CallerLemmas.{homed-permutation}
 use Rattle.collections.specs.Capacity.{HasRoomFor}
-use Rattle.collections.specs.Changes.{Adds, HandsBack, Stays}
+use Rattle.collections.specs.Changes.{Adds, ReturnsPair, Stays}
 use Rattle.collections.specs.Crowding.{HasAtHome, LacksRoom}
 use Rattle.collections.specs.Maps.{MapView, map_len}
 use Rattle.collections.specs.Slots.{GrowsSlots}
@@ -93,6 +93,6 @@ module _ {K V H : Type 0} (eq : K → K → Bool) (hash_of : H → K → ℕ) wh
 
 -- the pair that is returned is the one that was passed in
 pub handed_back : {K V H : Type 0} (eq : K → K → Bool) (key : K) (value : V) (map : MapView K V H) {why : NotInserted K V} {k : K} {v : V}
-    → why ≡ Memory k v → HandsBack eq key value map why → why ≡ Memory key value
+    → why ≡ Memory k v → ReturnsPair eq key value map why → why ≡ Memory key value
 handed_back eq key value map is back =
-    let same = subst (HandsBack eq key value map) is back in is ∙ (λ i. Memory (same.0 i) (same.1 i))
+    let same = subst (ReturnsPair eq key value map) is back in is ∙ (λ i. Memory (same.0 i) (same.1 i))

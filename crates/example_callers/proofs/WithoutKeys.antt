@@ -28,7 +28,7 @@ module _ {K V H : Type 0} (eq : K → K → Bool) (laws : IsEquivalence eq) wher
     | inr miss ↦ rw miss (done.1.gets q)
   ]
 
-  -- the key at a place is out too
+  -- the key at a place is absent too
   pub without_more : (keys : List K) (place : ℕ) (key : K) (first old new : MapView K V H) → place < length keys
       → key ≡ get_or keys place key → IsWithout eq (take place keys) first old → Updates eq old (eq key) None new
       → IsWithout eq (take (place + 1) keys) first new
@@ -39,7 +39,7 @@ module _ {K V H : Type 0} (eq : K → K → Bool) (laws : IsEquivalence eq) wher
       ∙ ap (λ (b : Bool). cond b None (get eq first q))
       (ap (λ (k : K). list_any (eq q) (take place keys) || eq q k) item ∙ sym (list_any_more (eq q) keys place key below))
 
--- tombstones that come in two steps
+-- tombstones that are added in two steps
 pub marks_joined : {K V : Type 0} (epoch : ℕ) (old between new : List ((K × V) × ℕ)) → MarksBy epoch old between
     → MarksBy epoch between new → MarksBy epoch old new
 marks_joined epoch old between new one two = record {

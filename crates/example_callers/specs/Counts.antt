@@ -19,4 +19,4 @@ module _ {K H : Type 0} (eq : K → K → Bool) where
 
   -- the matching key is counted once more, from 0 if the map does not contain it, and each other key has what it had
   abbrev pub CountsOneMore : (K → Bool) → MapView K ℕ H → MapView K ℕ H → Type 0
-  CountsOneMore wants old new = Updates eq old wants (Some (min (unwrap_or (get_by wants old) 0 + 1) (2 ^ 64 - 1))) new
+  CountsOneMore matches old new = Updates eq old matches (Some (min (unwrap_or (get_by matches old) 0 + 1) (2 ^ 64 - 1))) new

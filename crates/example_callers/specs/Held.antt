@@ -4,7 +4,7 @@ use Rattle.std.specs.Option.{unwrap_or}
 use Rattle.collections.specs.Maps.{MapView, get}
 
 module _ {K H : Type 0} (eq : K → K → Bool) where
-  -- the number at a name, 0 if the map hasn't it
+  -- the number at a name, 0 if the map does not contain it
   abbrev pub held : MapView K ℕ H → K → ℕ
   held counts name = unwrap_or (get eq counts name) 0
 

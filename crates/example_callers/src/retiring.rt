@@ -2,7 +2,7 @@
 ghost use Rattle.std.specs.Prelude.{◌≡◌};
 ghost use Rattle.std.specs.List.{count_by};
 ghost use Rattle.bucket_slots.specs.Marking.{MarksBy};
-ghost use Rattle.bucket_table.specs.Views.ArraysView.{marks_of};
+ghost use Rattle.bucket_table.specs.Views.ArraysView.{tombstones_of};
 ghost use Rattle.collections.specs.Maps.{contains, map_of};
 ghost use Rattle.example_callers.specs.Without.{IsWithout};
 
@@ -20,7 +20,7 @@ pub fn retire_keys<K: Eq + Drop, V: Drop, H: KeyHash<K>>(
 ) -> usize
     ensures left { result ≡ count_by (contains K.eq (map_of index.new)) asked.now }
     ensures map { IsWithout K.eq retired.now (map_of index.old) (map_of index.new) }
-    ensures marks { MarksBy 0 (marks_of index.old.arrays) (marks_of index.new.arrays) }
+    ensures marks { MarksBy 0 (tombstones_of index.old.arrays) (tombstones_of index.new.arrays) }
 {
     for key in retired {
         index.remove(key);

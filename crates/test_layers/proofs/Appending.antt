@@ -1,4 +1,4 @@
--- A pair that has just come to a cache isn't listed.
+-- A pair that was just inserted into a cache isn't listed.
 use Rattle.std.proofs.Common.{ℕ, ◌≡◌, Bool, ap, ◌∙◌}
 use Rattle.bucket_slots.specs.BucketLaws.{IsBucketOf}
 use Rattle.bucket_slots.specs.BucketView.{BucketView, Place}

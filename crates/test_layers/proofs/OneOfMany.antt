@@ -2,7 +2,7 @@
 use Rattle.std.proofs.Common.{ℕ, ◌≡◌, Result, Ok, Err, OnErr, List, get_or, set, ap, ◌∙◌}
 use Rattle.std.proofs.lemmas.List.{set-get_or}
 
--- where a call on the member fails and leaves it, the list is as it was
+-- if a call on the member fails and doesn't change it, the list doesn't change
 pub unchanged_by_failure : {A E X : Type 0} (result : Result A E) (members : List X) (index : ℕ) (before after : X)
     → before ≡ get_or members index before → OnErr result (after ≡ before)
     → OnErr result (set members index after ≡ members)

@@ -1,4 +1,4 @@
--- A bucket out of which keys are taken, as a walk asks it of its visitor.
+-- A bucket from which keys are removed, as a walk allows its visitor.
 use Rattle.std.proofs.Common.{ℕ, ◌≡◌, false, Some, [], ◌∷◌, ◌++◌, sym, subst, ◌∙◌}
 use Rattle.std.proofs.lemmas.List.{append_assoc}
 use Rattle.std.proofs.lemmas.List.Sorted.{IsPermutation-append_right, IsPermutation-map, IsPermutation-trans}
@@ -11,7 +11,7 @@ use Rattle.bucket_slots.proofs.RoomAfter.{killed-slots_without}
 use Rattle.bucket_table.specs.Walking.Walks.{IsKeptBy, keys_in}
 
 module _ {K V : Type 0} where
-  -- one key goes
+  -- one key is removed
   pub kept_without : (s t : BucketView K V) (at : Place) (p : K × V) → live_pair (slot_in s at) ≡ Some p
       → t ≡ slots_without s at → s.killed ≡ false → IsKeptBy s t
   kept_without s t at p here is alive =
@@ -24,7 +24,7 @@ module _ {K V : Type 0} where
       } in
       subst (λ (b : BucketView K V). IsKeptBy s b) (sym is) kept
 
-  -- keys go, and then others
+  -- keys are removed, and then others
   pub kept_twice : (a b c : BucketView K V) → IsKeptBy a b → IsKeptBy b c → IsKeptBy a c
   kept_twice a b c first second = record {
     gone = first.gone ++ second.gone;

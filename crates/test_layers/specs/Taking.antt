@@ -1,4 +1,4 @@
--- A call that takes the pair of a key out of a map.
+-- A call that removes the pair of a key from a map.
 use Rattle.std.specs.Prelude.{◌≡◌, Bool, true, Option, Some, None, Result, Ok, Err}
 use Rattle.bucket_table.specs.Map.LookingUp.{IsAbsent}
 use Rattle.bucket_table.specs.Map.MapState.{KeepsPairs, MapState, TakesPair}

@@ -72,7 +72,7 @@ pub(crate) fn insert_oldest<V: Drop, L: LruList, G: Generation, const TYPE: u8>(
 ) -> Result<EntryPtr<u64, V, TYPE>, (u64, V)>
     requires cache { TYPE ≡ CACHE }
 {
-    bucket.sound();
+    bucket.fact_sound();
     let at = bucket.insert(hash, pair, generation)?;
     bucket.append_lru(&at);
     Ok(at)

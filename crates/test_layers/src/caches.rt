@@ -15,16 +15,16 @@ type Stage = crate::stage::Stage<DoublyLinkedList, CACHE>;
 // Each key is its own value.
 pub(crate) const EVICTIONS: &[Story] = stories! {
     // An own slot is free after the first eviction, though the chain is not empty.
-    "an eviction looks at own slots alone", 0:
+    "an eviction considers only own slots", 0:
         Set(Values(1, 0)), InsertAndTouch(0..40), Evict(Some(0)), Expect(Len(39)), Evict(None),
         Expect(Len(39));
-    "slot zero goes where nothing was touched", 0:
+    "slot 0 is evicted if nothing was touched", 0:
         Set(Values(1, 0)), InsertRange(0..32), Evict(Some(0)), Expect(Len(31)), Insert(40, (0, 0)),
         Evict(Some(40)), Expect(Len(31)), Evict(None), Expect(Len(31));
 };
 
 pub(crate) const ORDERS: &[Story] = stories! {
-    "the order is taken, and nothing is listed then", 0:
+    "taking the order leaves nothing listed", 0:
         Set(Values(1, 0)), InsertAndTouch(0..4), Touch(1, true), TakeOrder(&[1, 3, 2, 0]),
         TakeOrder(&[]), InsertRange(4..32), Touch(2, true), TakeOrder(&[2]), Evict(Some(0)),
         Expect(Len(31));
@@ -33,15 +33,15 @@ pub(crate) const ORDERS: &[Story] = stories! {
             31, 30, 29, 28, 27, 26, 25, 24, 23, 22, 21, 20, 19, 18, 17, 16, 15, 14, 13, 12, 11, 10,
             9, 8, 7, 6, 5, 4, 3, 2, 1, 0,
         ]), Expect(Len(40)), Expect(Present(0..40));
-    "a pair that comes as the oldest goes first", 0:
+    "a pair inserted as the oldest is evicted first", 0:
         Set(Values(1, 0)), InsertAndTouch(0..2), InsertOldest(2, (0, 2)), InsertOldest(3, (0, 3)),
         InsertRange(4..32), Evict(Some(3)), InsertRange(40..41), Evict(Some(2)),
         InsertRange(41..42), Evict(Some(0)), InsertRange(42..43), Evict(Some(1)),
         InsertRange(43..44), Evict(Some(42)), Expect(Len(31));
-    "the oldest of an empty list is the newest", 0:
+    "a slot appended to an empty list is the newest", 0:
         InsertOldest(7, (0, 0)), InsertOldest(8, (0, 1)), TakeOrder(&[0, 1]),
         InsertOldest(9, (0, 2)), Touch(8, true), Touch(9, true), TakeOrder(&[2, 1]);
-    "a pair of the chain isn't listed", 0:
+    "a pair in the chain isn't listed", 0:
         InsertRange(0..31), InsertOldest(31, (0, 31)), InsertOldest(32, (1, 0)), TakeOrder(&[31]);
 };
 
@@ -148,7 +148,7 @@ fn a_removed_pair_leaves_the_others_in_their_order(rt: HostRuntime) -> Result<()
                 InsertRange(100..end),
                 Expect(Len(32)),
             ];
-            stage.play(&rt, "touched pairs go", &steps)?;
+            stage.play(&rt, "touched pairs are removed", &steps)?;
             for key in gone..touched {
                 plain.insert(0, key)?;
             }
@@ -163,7 +163,7 @@ fn a_removed_pair_leaves_the_others_in_their_order(rt: HostRuntime) -> Result<()
 // evicted.
 fn evict_all(rt: &impl Abort, stage: &mut Stage, listed: &[u64]) -> Result<(), Fail> {
     for oldest in listed.iter().rev() {
-        let row = ("the oldest goes", *oldest as usize);
+        let row = ("the oldest is evicted", *oldest as usize);
         let comes = oldest.wrapping_add(1000);
         stage.step(rt, row, &Evict(Some(*oldest)))?;
         stage.step(rt, row, &InsertRange(comes..comes.wrapping_add(1)))?;

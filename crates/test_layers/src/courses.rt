@@ -23,7 +23,7 @@ const KEYS: u64 = 300;
 // How many calls a phase has.
 const PHASE: u64 = 2500;
 
-// The number of calls after which an epoch and the kept tombstones are chosen anew, and the number
+// The number of calls after which an epoch and the kept tombstones are chosen again, and the number
 // after which a call is made that no script makes.
 const CHOICE: u64 = 10;
 
@@ -237,8 +237,8 @@ fn ask<L: LruList + Drop, const TYPE: u8>(
 ) {
     let mut probe = EqProbe::new(&key);
     let found = table.peek_entry_by(table.hash(&key), &mut probe).is_some();
-    check_same(rt, found, there, ("asked", key));
-    check_same(rt, probe.asked() <= KEYS, true, ("how often", key));
+    check_same(rt, found, there, ("probe", key));
+    check_same(rt, probe.asked() <= KEYS, true, ("comparisons", key));
 }
 
 // Plays a course from a new table until all its pairs are removed.
@@ -277,7 +277,7 @@ fn play<L: LruList + Drop, const TYPE: u8>(
     }
     let _ = table.try_resize()?;
     check_same(rt, table.num_entries(), 0, "pairs are left");
-    check_same(rt, table.num_slots(), least, "the way back");
+    check_same(rt, table.num_slots(), least, "size at the end");
     check_same(rt, course.most_slots >= 256, true, "two doublings");
     check_same(rt, course.shrinks > 0, true, "shrinks of pairs");
     check_same(rt, course.opened > 0, true, "open tickets");

@@ -111,7 +111,7 @@ fn check_act<const LEN: usize>(
             if there {
                 block.drop_in_place(*pos);
             }
-            check_same(rt, there, *wanted, (LEN, row, "let go"));
+            check_same(rt, there, *wanted, (LEN, row, "drop"));
         }
     }
 }

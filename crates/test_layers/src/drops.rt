@@ -84,7 +84,7 @@ const OF_MAPS: &[Story] = stories! {
     "each value is dropped once with its bucket", 41:
         Expect(Values(42)), Remove(&[4, 39, 40]), Expect(Values(39));
     // The keys are in own slots, in the chain's head and in its last block.
-    "a value goes as another is written over it", 41:
+    "an overwritten value is dropped", 41:
         Write(&[0, 31, 32, 35, 40]), Expect(Values(42)), Expect(Len(41)), Remove(&[32, 40]),
         Expect(Values(40));
     // Two free blocks are behind the one of live pairs. That one is removed, and a pair is
@@ -101,27 +101,27 @@ const OF_MAPS: &[Story] = stories! {
 
 const OF_INDEXES: &[Story] = stories! {
     // Two pairs in own slots are removed, and two in the chain.
-    "a clearing drops what it lets go", 37:
+    "clearing a tombstone drops its value", 37:
         Expect(Values(38)), Mark(&[0, 31, 32, 36]), Expect(Values(38)), ClearTombstones(Kept::All),
         Expect(Values(38)), ClearTombstones(Kept::None), Expect(Values(34)),
         ClearTombstones(Kept::None), Expect(Values(34));
     // One pair is inserted and none dropped; then one is inserted and four are dropped, those in
     // the chain among them.
-    "an insertion that clears drops what it lets go", 37:
+    "an insertion that clears tombstones drops their values", 37:
         Mark(&[3, 4, 33, 36]), Insert(40, Kept::All), Expect(Values(39)), Insert(41, Kept::None),
         Expect(Values(36)), Expect(Len(35));
-    "marked pairs go with their bucket", 41:
+    "tombstones are dropped with their bucket", 41:
         Mark(&[0, 7, 32, 39, 40]), Expect(Values(42)), Expect(Len(36));
     // A bucket with live pairs stays. One with only tombstones is killed.
-    "a clearing of marks alone drops all values", 41:
+    "clearing a bucket of tombstones drops all values", 41:
         MarkRange(0..41), Expect(Values(42)), ClearTombstones(Kept::None), Expect(Values(1)),
         Insert(50, Kept::None), Expect(Values(2));
     // The free blocks at the chain's end are dropped, and the one before them stays with its live
     // pair.
-    "a clearing drops no value with a free block", 33:
+    "dropping a free block drops no value", 33:
         Reserve(11), Mark(&[5]), ClearTombstones(Kept::All), Expect(Values(34)),
         ClearTombstones(Kept::None), Expect(Values(33)), Expect(Len(32));
-    "a killed bucket of an index keeps its marked pairs", 41:
+    "a killed bucket of an index keeps its tombstones", 41:
         MarkRange(0..41), Kill, Expect(Values(42)), Expect(OwnSlot(31));
 };
 
@@ -316,17 +316,17 @@ fn pairs_in_a_few_parts_of_an_array_are_dropped_once(rt: HostRuntime) -> Result<
             insert_clone(array.bucket_mut(*index), key, &counted, &Kept::All)?;
         }
     }
-    check_same(&rt, Rc::strong_count(&counted), 1 + PAIRS, "come");
+    check_same(&rt, Rc::strong_count(&counted), 1 + PAIRS, "inserted");
     for key in 0..20 {
         assert!(rt; 300 < array.len());
         let taken = remove_at(array.bucket_mut(300), key, 0).is_some();
         check_same(&rt, taken, true, key);
     }
-    check_same(&rt, Rc::strong_count(&counted), 1 + PAIRS - 20, "go");
+    check_same(&rt, Rc::strong_count(&counted), 1 + PAIRS - 20, "removed");
     drop(untouched);
-    check_same(&rt, Rc::strong_count(&counted), 1 + PAIRS - 20, "stay");
+    check_same(&rt, Rc::strong_count(&counted), 1 + PAIRS - 20, "kept");
     drop(array);
-    check_same(&rt, Rc::strong_count(&counted), 1, "gone");
+    check_same(&rt, Rc::strong_count(&counted), 1, "dropped");
     Ok(())
 }
 

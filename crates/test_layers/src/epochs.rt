@@ -39,23 +39,23 @@ const FIVE: Kept = Kept::Rest(255, 5);
 
 const STORIES: &[Story] = steps! {
     // The last two steps drop only the tombstone of epoch 5.
-    ("a sweep marks with its epoch", steps! {
+    ("tombstones of a sweep have its epoch", steps! {
         SetEpoch(5, Kept::All), Sweep(4, 4), SetEpoch(0, FIVE), Insert(32, (1, 0)),
         SetEpoch(0, Kept::But(5)), Insert(33, (0, 0)) }),
-    ("marks of another epoch than that of a sweep go", steps! {
+    ("tombstones of a sweep are dropped if their epoch isn't kept", steps! {
         SetEpoch(7, Kept::All), Sweep(4, 4), SetEpoch(0, FIVE), Insert(32, (0, 0)) }),
-    ("marked pairs are asked for no more", steps! {
+    ("retain doesn't visit tombstones", steps! {
         SetEpoch(5, Kept::All), Retain(4, 32), Retain(4, 28), SetEpoch(0, FIVE), Insert(32, (1, 0)),
         SetEpoch(0, Kept::But(5)), Insert(33, (0, 0)) }),
-    ("a clearing marks with its epoch", steps! {
+    ("tombstones of a clear have its epoch", steps! {
         SetEpoch(5, Kept::All), Clear(32), SetEpoch(0, FIVE), Insert(32, (1, 0)),
         SetEpoch(0, Kept::But(5)), Insert(33, (0, 0)) }),
-    ("marks of another epoch than that of a clearing go", steps! {
+    ("tombstones of a clear are dropped if their epoch isn't kept", steps! {
         SetEpoch(7, Kept::All), Clear(32), SetEpoch(0, FIVE), Insert(32, (0, 0)) }),
-    ("a removal marks with its epoch", steps! {
+    ("tombstones of removals have their epoch", steps! {
         SetEpoch(5, Kept::All), Remove(0), Remove(9), SetEpoch(0, FIVE), Insert(32, (1, 0)),
         SetEpoch(0, Kept::But(5)), Insert(33, (0, 0)), Insert(34, (0, 9)) }),
-    ("marks of another epoch than that of a removal go", steps! {
+    ("tombstones of removals are dropped if their epoch isn't kept", steps! {
         SetEpoch(7, Kept::All), Remove(0), SetEpoch(5, Kept::All), Remove(9), SetEpoch(0, FIVE),
         Insert(32, (0, 0)), Insert(33, (1, 0)) })
 };

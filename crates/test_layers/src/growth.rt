@@ -28,16 +28,16 @@ const STORIES: &[Story] = steps! {
             Lock(FindHome(0, None)), Read(0), Expect(Slots(128, None)),
             Lock(FindHome(0, Some((0, 32)))), Lock(FindHome(128, Some((2, 31)))),
             Lock(FindPlace(31, (0, 31))), Count(63) } },
-    Story { name: "a bucket that is asked for ends a growth", hasher: ScriptHash::Spread,
+    Story { name: "reserving a bucket completes a growth", hasher: ScriptHash::Spread,
         minimum: 0, start: DOUBLED, steps: steps! {
             Lock(FindReserved(0, 0)), Expect(Slots(128, None)), Count(63) } },
-    Story { name: "one hash for all keys makes a chain", hasher: ScriptHash::Zero, minimum: 0,
+    Story { name: "keys with equal hashes make a chain", hasher: ScriptHash::Zero, minimum: 0,
         start: OVERFLOWED, steps: steps! {
             Lock(Insert(33, 0, (1, 1))), Lock(Insert(34, 0, (1, 2))), Lock(Insert(35, 0, (1, 3))),
             Lock(Insert(36, 0, (1, 0))), Lock(FindPlace(32, (2, 0))), Lock(FindPlace(33, (2, 1))),
             Lock(FindPlace(34, (2, 2))), Lock(FindPlace(35, (2, 3))), Expect(Slots(64, None)),
             Lock(Remove(36, (1, 32))), Lock(FindPlace(32, (1, 0))) } },
-    Story { name: "a pointer goes back to the own slots", hasher: ScriptHash::Zero, minimum: 0,
+    Story { name: "a pointer returns to the own slots", hasher: ScriptHash::Zero, minimum: 0,
         start: OVERFLOWED, steps: steps! {
             Lock(Remove(32, (0, 31))), Lock(FindHome(0, Some((0, 32)))) } },
     // The last key takes the last place of the chain's head.
@@ -53,7 +53,7 @@ const STORIES: &[Story] = steps! {
             Expect(Slots(0, None)) } },
     // All pairs are in the second bucket, which an automatic growth doesn't look at. 256 is the
     // least power of two whose half isn't below 100.
-    Story { name: "a resize that is asked for comes once", hasher: ScriptHash::Spread, minimum: 0,
+    Story { name: "a requested resize happens once", hasher: ScriptHash::Spread, minimum: 0,
         start: steps! { InsertRange(128..228), Expect(Slots(64, None)) }, steps: steps! {
             Rehash(TryResize(true)), Expect(Slots(256, Some(0))), Rehash(TryResize(false)),
             Expect(Slots(256, Some(0))), Count(100) } },
@@ -69,7 +69,7 @@ const STORIES: &[Story] = steps! {
             Rehash(GrowIfOverfull(0, true)), Read(0), Expect(Slots(256, None)),
             Rehash(GrowIfOverfull(0, true)), Read(0), Rehash(GrowIfOverfull(0, false)),
             Expect(Slots(512, None)), Count(48) } },
-    Story { name: "a resize that is asked for gives an empty array up", hasher: ScriptHash::Id,
+    Story { name: "a requested resize drops an empty array", hasher: ScriptHash::Id,
         minimum: 0, start: steps! {
             Lock(FindBucket(0, 0)), Expect(Slots(64, None)) }, steps: steps! {
             Rehash(TryResize(true)), Expect(Slots(0, None)), Rehash(TryResize(false)),

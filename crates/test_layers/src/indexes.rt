@@ -17,18 +17,18 @@ const ALL_OWN: u32 = 4294967295;
 
 pub(crate) const INSERTIONS: &[Story] = stories! {
     // All tombstones that aren't kept are dropped at once, with the first.
-    "marks that are kept send a pair to the chain", 32:
+    "tombstones that are kept send a pair to the chain", 32:
         Mark(&[0, 1, 2, 3]), Expect(Len(28)), Expect(Place(0, None)), Insert(32, (1, 0)), LET_GO,
         Insert(33, (0, 0)), Expect(Len(30)), Expect(Place(32, Some((1, 0)))),
         Expect(OwnSlot(1, None)), Expect(OwnSlot(2, None)), Expect(OwnSlot(3, None)), KEEP,
         Insert(34, (0, 1)), Insert(35, (0, 2));
-    "marks stay while an own slot is free", 31:
+    "tombstones stay while an own slot is free", 31:
         Mark(&[4]), LET_GO, Insert(40, (0, 31)), Expect(OwnSlot(4, Some(4))), Insert(41, (0, 4));
-    "marks in the chain stay while no own slot is marked", 33:
+    "chain tombstones stay while no own slot is a tombstone", 33:
         Mark(&[32]), LET_GO, Insert(40, (1, 1)), Insert(41, (1, 2));
     // The own slots have one tombstone of epoch 1, which is kept, and the chain has live key 34
     // between three tombstones of epoch 2, which are not.
-    "a block with a live pair stays and takes the next", 36:
+    "a block with a live pair stays and takes the next ones", 36:
         Set(Epoch(1, Kept::Rest(255, 1))), Mark(&[7]), Set(Epoch(2, Kept::Rest(255, 1))),
         Mark(&[32, 33, 35]), Expect(Len(32)), Expect(Place(34, Some((1, 2)))), Insert(40, (1, 0)),
         Insert(41, (1, 1)), Insert(42, (1, 3)), Insert(43, (1, 0)), Expect(Len(36)),
@@ -36,18 +36,18 @@ pub(crate) const INSERTIONS: &[Story] = stories! {
         Expect(Place(42, Some((2, 3))));
     // Two free blocks are behind one full of live pairs. The original drops both before key 40 is
     // inserted, and allocates again; here the last of them is dropped after the insertion.
-    "a pair is placed before free blocks go", 36:
+    "a pair is placed before free blocks are dropped", 36:
         Mark(&[7]), Reserve(8), Insert(40, (2, 0)), Expect(Place(32, Some((1, 0)))),
         Insert(41, (2, 1)), Insert(42, (2, 2)), Insert(43, (2, 3)), Insert(44, (1, 0)),
         Expect(Place(40, Some((3, 0)))), Expect(Place(43, Some((3, 3))));
     // Two pairs are inserted into own slots. Two free blocks are dropped then, and the place of the
     // last pair shows it.
-    "free blocks go though an own slot took the pair", 32:
+    "free blocks are dropped even if an own slot takes the pair", 32:
         Mark(&[5, 6]), Reserve(8), LET_GO, Insert(40, (0, 5)), Insert(41, (0, 6)),
         Insert(42, (1, 0)), Insert(43, (1, 1)), Insert(44, (1, 2)), Insert(45, (1, 3)),
         Insert(46, (1, 0)), Expect(Len(37));
     // A clearing that keeps none frees the slots 0, 1, 2 and 31.
-    "a move into a bucket leaves its marks", 40:
+    "a move into a bucket keeps its tombstones", 40:
         Swap, InsertRange(0..32), Mark(&[0, 1, 2, 31]), Move(32, Some((1, 0))),
         Expect(OwnSlot(0, Some(0))), Expect(OwnSlot(31, Some(31))), Move(33, Some((1, 1))),
         Expect(OwnSlot(0, Some(0))), Expect(OwnSlot(31, Some(31))), Move(39, Some((1, 2))),
@@ -59,23 +59,23 @@ pub(crate) const RESERVATIONS: &[Story] = stories! {
     // The 28 live pairs and 4 more are as many as the 32 own slots, but none of these is free. The
     // original compares those numbers and adds no block. The second reservation adds none, so key
     // 36 makes a new head.
-    "marked slots count as taken", 40:
+    "tombstones count as occupied slots", 40:
         Swap, InsertRange(0..32), Mark(&[0, 1, 2, 3]), Expect(Len(28)), Reserve(4), Reserve(4),
         Expect(Len(28)), Move(32, Some((1, 0))), Move(33, Some((1, 1))), Move(34, Some((1, 2))),
         Move(35, Some((1, 3))), Expect(Lens(32, 36)), Move(36, Some((1, 0))),
         Expect(Place(32, Some((2, 0)))), Expect(Place(35, Some((2, 3))));
     // The reserved block is behind the block of live pairs, while a block that a move has to make
     // is before it.
-    "what is reserved for marked slots stands at the end", 44:
+    "a block reserved because of tombstones is at the end", 44:
         Swap, InsertRange(0..36), Mark(&[0, 1, 2, 3]), Reserve(4), Reserve(4),
         Move(36, Some((2, 0))), Move(37, Some((2, 1))), Move(38, Some((2, 2))),
         Move(39, Some((2, 3))), Expect(Place(32, Some((1, 0)))), Move(40, Some((1, 0))),
         Expect(Place(36, Some((3, 0))));
-    "a moved pair passes a marked slot in its block", 40:
+    "a moved pair skips a tombstone in its block", 40:
         Swap, InsertRange(0..34), Mark(&[32]), Reserve(2), Move(36, Some((1, 2))),
         Move(37, Some((1, 3))), Move(38, Some((1, 0))), Expect(Place(33, Some((2, 1))));
     // All own slots but the first four: the sum of 2^i over i from 4 to 31. One block is added.
-    "slots that were let go are free", 32:
+    "cleared slots are free", 32:
         Mark(&[0, 1, 2, 3]), Expect(Len(28)), LET_GO, ClearTombstones(4294967280), KEEP, Reserve(5),
         Insert(40, (0, 0)), Insert(41, (0, 1)), Insert(42, (0, 2)), Insert(43, (0, 3)),
         Insert(44, (1, 0)), Insert(45, (1, 1)), Insert(46, (1, 2)), Insert(47, (1, 3)),
@@ -87,13 +87,13 @@ pub(crate) const RESERVATIONS: &[Story] = stories! {
 
 pub(crate) const CLEARINGS: &[Story] = stories! {
     // The chain's first slot is occupied.
-    "a clearing that keeps every mark changes nothing", 33:
+    "a clearing that keeps every tombstone changes nothing", 33:
         Expect(Place(32, Some((1, 0)))), Mark(&[0, 1, 32]), Expect(Len(30)),
         ClearTombstones(ALL_OWN), Expect(Len(30)), ClearTombstones(ALL_OWN), Expect(Len(30)),
         Expect(OwnSlot(0, Some(0))), Expect(OwnSlot(1, Some(1))), Expect(OwnSlot(2, Some(2))),
         Insert(40, (1, 1));
     // All own slots but 0 and 1 are occupied then, and the chain is dropped.
-    "a clearing that keeps no mark frees the marked slots", 33:
+    "a clearing that keeps no tombstone frees their slots", 33:
         Expect(Place(32, Some((1, 0)))), Mark(&[0, 1, 32]), Expect(Len(30)), LET_GO,
         ClearTombstones(4294967292), Expect(Len(30)), Expect(OwnSlot(0, None)),
         Expect(OwnSlot(1, None)), Expect(Absent(0..2)), Expect(Absent(32..33)),
@@ -106,17 +106,17 @@ pub(crate) const CLEARINGS: &[Story] = stories! {
         LET_GO, ClearTombstones(31), Expect(Len(5)), Expect(Present(0..5));
     "a clearing of full own slots changes nothing", 32:
         LET_GO, ClearTombstones(ALL_OWN), Expect(Len(32)), Expect(Present(0..32));
-    "a clearing of a chain without marks changes nothing", 37:
+    "a clearing of a chain without tombstones changes nothing", 37:
         LET_GO, ClearTombstones(ALL_OWN), Expect(Len(37)), Expect(Present(0..37));
     // With keys 0 to 36, the chain is [36], [32 to 35]. The fifth pair that is inserted after a
     // clearing shows whether one block, two or none are left.
-    "a chain of free blocks goes", 37:
+    "a chain of free blocks is dropped", 37:
         Mark(&[32, 33, 34, 35, 36]), LET_GO, ClearTombstones(ALL_OWN), KEEP, Insert(50, (1, 0)),
         Insert(51, (1, 1)), Insert(52, (1, 2)), Insert(53, (1, 3)), Insert(54, (1, 0));
-    "a free block goes from the end of the chain", 37:
+    "a free block at the end of the chain is dropped", 37:
         Mark(&[32, 33, 34, 35]), LET_GO, ClearTombstones(ALL_OWN), KEEP, Insert(50, (1, 1)),
         Insert(51, (1, 2)), Insert(52, (1, 3)), Insert(53, (1, 0)), Insert(54, (1, 1));
-    "a head that is free stays before a live pair", 37:
+    "a free head stays if a later block has a live pair", 37:
         Mark(&[36]), LET_GO, ClearTombstones(ALL_OWN), Expect(Place(32, Some((2, 0)))),
         Expect(Place(33, Some((2, 1)))), Expect(Place(34, Some((2, 2)))),
         Expect(Place(35, Some((2, 3)))), KEEP, Insert(50, (1, 0)), Insert(51, (1, 1)),
@@ -129,12 +129,12 @@ pub(crate) const CLEARINGS: &[Story] = stories! {
 
 pub(crate) const SEARCHES: &[Story] = stories! {
     // 263 has the low byte 7, and so has the tombstone.
-    "a key that comes again is found behind its mark", 0:
+    "a reinserted key is found after its tombstone", 0:
         Set(Hashes(7, 0)), InsertRange(0..3), Set(Hashes(263, 0)), Set(Epoch(7, Kept::All)),
         Mark(&[0]), Expect(Place(0, None)), Set(Values(0, 99)), Insert(0, (0, 3)),
         Expect(Present(0..1)), Expect(Len(3)), Expect(OwnSlot(3, Some(0))), Set(Values(10, 0)),
         Expect(OwnSlot(0, Some(0)));
-    "a bucket of marks alone finds and walks nothing", 37:
+    "a bucket of tombstones finds and walks nothing", 37:
         MarkRange(0..37, 0), Expect(Len(0)), Expect(Absent(0..37)), Walk(Next(None, (0, 32)));
 };
 
@@ -143,7 +143,7 @@ pub(crate) const SEARCHES: &[Story] = stories! {
 macro_rules! seven_marked {
     ($($epoch:literal),+) => {
         &[$((
-            "marked pairs are found and walked no more",
+            "tombstones are neither found nor walked",
             0,
             &[
                 Set(Hashes(263, 0)), Set(Epoch($epoch, Kept::All)), InsertRange(0..41),
@@ -166,7 +166,7 @@ pub(crate) const SEVEN_MARKED: &[Story] = seven_marked!(7, 0, 6, 255);
 macro_rules! by_rest {
     ($($first:literal, $divisor:literal, $rest:literal => $left:literal);+) => {
         &[$((
-            "the marks of a rest stay",
+            "tombstones whose epochs have the remainder stay",
             32,
             &[
                 Set(Epoch($first, Kept::All)), MarkRange(0..32, 1), Expect(Len(0)),
@@ -186,7 +186,7 @@ pub(crate) const BY_REST: &[Story] = by_rest! {
 macro_rules! gone {
     ($($gone:literal),+) => {
         &[$((
-            "an insertion goes to the one slot whose mark goes",
+            "an insertion takes the one slot whose tombstone is dropped",
             32,
             &[
                 Set(Epoch($gone / 32 * 32, Kept::All)), MarkRange(0..32, 1), Expect(Len(0)),
@@ -204,7 +204,7 @@ pub(crate) const GONE: &[Story] = gone!(0, 1, 31, 32, 77, 100, 127, 128, 200, 25
 macro_rules! odd_epochs {
     ($($first:literal),+) => {
         &[$((
-            "marks in the chain go as those in own slots do",
+            "tombstones in the chain are dropped like those in own slots",
             64,
             &[
                 Set(Epoch($first, Kept::All)), MarkRange(0..64, 1), Expect(Len(0)),

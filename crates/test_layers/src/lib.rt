@@ -24,6 +24,8 @@ mod cursors;
 #[cfg(test)]
 mod data_blocks;
 #[cfg(test)]
+mod digests;
+#[cfg(test)]
 mod drops;
 #[cfg(test)]
 mod emptied;

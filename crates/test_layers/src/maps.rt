@@ -9,7 +9,7 @@ use crate::steps::{Story, stories};
 pub(crate) const PLACES: &[Story] = stories! {
     "a new bucket finds nothing", 0:
         Expect(Len(0)), Expect(Killed(false)), Expect(Absent(0..4)), Expect(FreeSlots(0..32));
-    "a pair goes to the lowest free own slot", 32:
+    "a pair takes the lowest free own slot", 32:
         Expect(Len(32)), Remove(4, Some((0, 4))), Expect(Len(31)), Expect(OwnSlot(4, None)),
         Insert(4, (0, 4)), Expect(Len(32)), Expect(OwnSlot(4, Some(4))), Remove(20, Some((0, 20))),
         Expect(Len(31)), Expect(OwnSlot(20, None)), Insert(20, (0, 20)), Expect(Len(32)),
@@ -19,20 +19,20 @@ pub(crate) const PLACES: &[Story] = stories! {
         Remove(9, Some((0, 9))), Remove(4, Some((0, 4))), Remove(30, Some((0, 30))),
         Insert(40, (0, 4)), Insert(41, (0, 9)), Insert(42, (0, 30));
     // The block that was the head is behind the new one then.
-    "a pair that finds no free slot makes a new head", 32:
+    "a pair without a free slot makes a new head", 32:
         Insert(32, (1, 0)), Insert(33, (1, 1)), Insert(34, (1, 2)), Insert(35, (1, 3)),
         Insert(36, (1, 0)), Expect(Len(37)), Expect(Place(36, Some((1, 0)))),
         Expect(Place(32, Some((2, 0)))), Expect(Place(35, Some((2, 3)))),
         Expect(Place(31, Some((0, 31))));
     // The chain of keys 0 to 40 is [40], [36 to 39], [32 to 35].
-    "a block goes with its last pair", 41:
+    "a block is dropped with its last pair", 41:
         Remove(36, Some((2, 0))), Remove(37, Some((2, 1))), Remove(38, Some((2, 2))),
         Remove(39, Some((2, 32))), Remove(40, Some((1, 32))), Expect(Len(36)),
         Expect(Place(32, Some((1, 0)))), Expect(Place(35, Some((1, 3))));
-    "the last block leaves its pointer behind the own slots", 33:
+    "dropping the last block moves the pointer to the last own slot", 33:
         Remove(32, Some((0, 31))), Expect(Len(32)), Expect(Place(32, None));
     // 261 has the low byte 5, and only that is compared.
-    "a search wants the byte and the key", 0:
+    "a search compares the fingerprint and the key", 0:
         Set(Hashes(5, 0)), Insert(1, (0, 0)), Set(Hashes(6, 0)), Insert(2, (0, 1)),
         Set(Hashes(5, 0)), Expect(Place(1, Some((0, 0)))), Expect(Place(2, None)),
         Expect(Place(3, None)), Set(Hashes(261, 0)), Expect(Place(1, Some((0, 0)))),
@@ -41,25 +41,25 @@ pub(crate) const PLACES: &[Story] = stories! {
         Set(Hashes(5, 0)), Insert(1, (0, 0)), Set(Values(10, 1)), Insert(1, (0, 1)),
         Set(Values(10, 0)), Expect(Place(1, Some((0, 0)))), Remove(1, Some((0, 0))),
         Set(Values(10, 1)), Expect(Place(1, Some((0, 1))));
-    "a pair that is out is not found", 2:
+    "a removed pair is not found", 2:
         Remove(0, Some((0, 0))), Expect(Place(0, None)), Expect(Place(1, Some((0, 1)))),
         Remove(1, Some((0, 1))), Expect(Len(0)), Expect(Place(1, None)), Remove(1, None);
-    "more keys than own slots come and go, all under one hash", 0:
+    "more keys than own slots are inserted and removed, all with one hash", 0:
         Set(Values(0, 0)), InsertRange(0..34), Expect(Len(34)), Expect(Present(0..34)),
         Expect(Absent(34..68)), RemoveRange(0..34), Expect(Len(0)), Expect(Absent(0..34)),
         Walk(Next(None, (0, 32)));
-    "more keys than own slots come and go, under as many hashes", 0:
+    "more keys than own slots are inserted and removed, with 32 hashes", 0:
         Set(Values(0, 0)), Set(Hashes(0, 31)), InsertRange(0..34), Expect(Len(34)),
         Expect(Present(0..34)), Expect(Absent(34..68)), RemoveRange(0..34), Expect(Len(0)),
         Expect(Absent(0..34)), Walk(Next(None, (0, 32)));
     // No slot is free after ten pairs, so the next pair makes a new head.
-    "reserved slots take the pairs that come", 30:
+    "reserved slots take the next pairs", 30:
         Reserve(10), Reserve(10), Expect(Len(30)), Insert(30, (0, 30)), Insert(31, (0, 31)),
         Insert(32, (1, 0)), Insert(33, (1, 1)), Insert(34, (1, 2)), Insert(35, (1, 3)),
         Insert(36, (2, 0)), Insert(37, (2, 1)), Insert(38, (2, 2)), Insert(39, (2, 3)),
         Insert(40, (1, 0)), Expect(Place(32, Some((2, 0)))), Expect(Place(39, Some((3, 3))));
     // With the two blocks that were reserved, key 36 would be in the second.
-    "a killed bucket gives its chain up", 0:
+    "a killed bucket drops its chain", 0:
         Set(Values(0, 0)), Reserve(40), Kill(true), Expect(Killed(true)), Kill(false),
         InsertRange(0..37), Expect(Place(36, Some((1, 0)))), Expect(Place(32, Some((2, 0))));
     // None of ten reserved blocks is left: key 36 is in the second block that had to be made.
@@ -68,7 +68,7 @@ pub(crate) const PLACES: &[Story] = stories! {
 };
 
 pub(crate) const WALKS: &[Story] = stories! {
-    "a walk over one pair ends and starts anew", 1:
+    "a walk over one pair ends and starts again", 1:
         Walk(Next(Some(0), (0, 0))), Walk(Next(None, (0, 32))), Walk(Next(Some(0), (0, 0)));
     "a walk goes through the own slots and then from the head", 41:
         Walk(KeyRange(0..32)), Walk(Keys(&[40, 36, 37, 38, 39, 32, 33, 34, 35])),
@@ -76,16 +76,16 @@ pub(crate) const WALKS: &[Story] = stories! {
             0, 1, 2, 3, 4, 5, 6, 7, 8, 9, 10, 11, 12, 13, 14, 15, 16, 17, 18, 19, 20, 21, 22, 23,
             24, 25, 26, 27, 28, 29, 30, 31, 40, 36, 37, 38, 39, 32, 33, 34, 35,
         ]));
-    "a walk goes on behind a removed pair", 41:
+    "a walk continues after a removed pair", 41:
         Remove(36, Some((2, 0))), Walk(Next(Some(37), (2, 1))), Remove(37, Some((2, 1))),
         Walk(Next(Some(38), (2, 2))), Remove(38, Some((2, 2))), Walk(Next(Some(39), (2, 3))),
         Remove(39, Some((2, 32))), Walk(Next(Some(32), (2, 0))), Remove(40, Some((1, 32))),
         Walk(Next(Some(32), (1, 0))), Expect(Len(36));
-    "the only pair of the head takes its block along", 37:
+    "removing the only pair of the head drops its block", 37:
         Expect(Place(36, Some((1, 0)))), Expect(Place(32, Some((2, 0)))),
         Expect(Place(33, Some((2, 1)))), Expect(Place(34, Some((2, 2)))),
         Expect(Place(35, Some((2, 3)))), Remove(36, Some((1, 32))), Walk(Next(Some(32), (1, 0)));
-    "a walk ends behind the last block that goes", 33:
+    "a walk ends after the last block is dropped", 33:
         Expect(Place(32, Some((1, 0)))), Remove(32, Some((0, 31))), Walk(Next(None, (0, 32)));
 };
 
@@ -101,7 +101,7 @@ pub(crate) const MOVES: &[Story] = stories! {
         Expect(Place(34, Some((0, 3)))), Swap, Expect(Place(36, Some((2, 0)))), Insert(50, (0, 5)),
         Insert(51, (0, 31)), Insert(52, (1, 0)), Insert(53, (3, 2)), Expect(Len(44));
     // The byte of both hashes is 5.
-    "a pair moves under the hash that is handed in", 0:
+    "a pair moves under the given hash", 0:
         Set(Hashes(5, 0)), Insert(1, (0, 0)), Swap, Set(Hashes(261, 0)), Move(1, Some((0, 0))),
         Expect(MovedFrom((0, 0))), Set(Hashes(5, 0)), Expect(Present(1..2)), Set(Hashes(6, 0)),
         Expect(Absent(1..2)), Set(Hashes(5, 0)), Move(1, None);

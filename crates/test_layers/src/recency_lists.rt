@@ -95,7 +95,7 @@ impl<L: LruList> Recent<L> {
 const STORIES: &[(&str, &[Act])] = steps! {
     ("the only slot is removed", steps! {
         Promote(5, Some(6)), Promote(5, None), Remove(5, Some(0)), Evict(None) }),
-    ("the oldest goes first", steps! {
+    ("the oldest is evicted first", steps! {
         Promote(1, Some(2)), Promote(2, Some(3)), Promote(3, Some(4)), Remove(3, Some(3)),
         Promote(1, Some(2)), Evict(Some((2, 2))), Evict(Some((1, 0))), Evict(None) }),
     // Slot 3 has slot 0 on both sides.

@@ -49,7 +49,7 @@ enum Expect {
 // A name, how keys are hashed, and the calls on a new cache.
 const STORIES: [(&str, ScriptHash, &[Step]); 5] = [
     (
-        "a pair is put once, and then its value is written",
+        "an upsert inserts a pair once, then replaces its value",
         ScriptHash::Id,
         &[
             AddOne(1, None),
@@ -67,7 +67,7 @@ const STORIES: [(&str, ScriptHash, &[Step]); 5] = [
         ],
     ),
     (
-        "the pairs of an old array are written where they are by then",
+        "an upsert finds the pairs of an old array after they move",
         ScriptHash::Spread,
         &[
             InsertRange(0..31),
@@ -85,7 +85,7 @@ const STORIES: [(&str, ScriptHash, &[Step]); 5] = [
         ],
     ),
     (
-        "a value of an old array is lent where it is by then",
+        "get_mut finds the pairs of an old array after they move",
         ScriptHash::Spread,
         &[
             InsertRange(0..31),
@@ -102,7 +102,7 @@ const STORIES: [(&str, ScriptHash, &[Step]); 5] = [
         ],
     ),
     (
-        "a full home gives up its pairs in the order of their touches, and then slot zero",
+        "a full bucket evicts its touched pairs in LRU order, and then slot 0",
         ScriptHash::Zero,
         &[
             Evict(0, None),
@@ -124,7 +124,7 @@ const STORIES: [(&str, ScriptHash, &[Step]); 5] = [
         ],
     ),
     (
-        "a pair put into a full home takes the place of the one touched longest ago",
+        "a put into a full bucket evicts its least recent pair",
         ScriptHash::Zero,
         &[
             Put(0, 1, None),

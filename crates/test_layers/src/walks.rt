@@ -110,34 +110,34 @@ const STORIES: &[Story] = steps! {
         start: TWO_UNITS, steps: steps! {
             Rehash(Finish(2)), Expect(Slots(8192, None)), Rehash(Finish(0)),
             Expect(Slots(8192, None)), Expect(Key(5)) } },
-    Story { name: "a unit that is done is finished no more", hasher: ScriptHash::Spread,
+    Story { name: "a finished unit isn't finished again", hasher: ScriptHash::Spread,
         minimum: 4096, start: TWO_UNITS, steps: steps! {
             Rehash(IssueTicket(0)), Rehash(RelocateRange(0..64)), Rehash(EndTicket(0)),
             Expect(Slots(8192, Some(2048))), Rehash(Finish(1)), Expect(Slots(8192, None)),
             Expect(Key(5)) } },
-    Story { name: "a walk takes pairs out and leaves a short array", hasher: ScriptHash::Id,
+    Story { name: "a walk removes pairs and leaves a short array", hasher: ScriptHash::Id,
         minimum: 0, start: steps! { InsertRange(1..4) }, steps: steps! {
             RemoveInWalk(2, 3), Expect(Slots(64, None)),
             FollowCursor(&[Stop { keys: 1..2, bucket: (0, 64), takes: false }]) } },
     // Once 0 to 31 are removed, the table shrinks, and the next bucket is the second of two.
-    Story { name: "a cursor goes on over the shrink that it brings", hasher: ScriptHash::Spread,
+    Story { name: "a cursor continues after a shrink it causes", hasher: ScriptHash::Spread,
         minimum: 0, start: SEVEN_BEHIND, steps: steps! {
             FollowCursor(&[
                 Stop { keys: 0..32, bucket: (0, 128), takes: true },
                 Stop { keys: 152..159, bucket: (1, 64), takes: false },
             ]),
             Expect(Slots(64, None)), Count(7) } },
-    Story { name: "a sweep goes on over the shrink that it brings", hasher: ScriptHash::Spread,
+    Story { name: "a sweep continues after a shrink it causes", hasher: ScriptHash::Spread,
         minimum: 0, start: SEVEN_BEHIND, steps: steps! {
             Sweep(128, 32), Expect(Slots(64, None)), Count(7), Expect(Key(152)) } },
-    Story { name: "each pair comes once, those of the old array last", hasher: ScriptHash::Spread,
+    Story { name: "each pair is visited once, the old array last", hasher: ScriptHash::Spread,
         minimum: 4096, start: ONE_UNIT_LEFT, steps: steps! {
             Expect(Each(&[5, 250, 200])), Expect(Len(3)), Expect(Slots(8192, Some(2048))), Count(3),
             Expect(Slots(8192, None)), Expect(Each(&[5, 200, 250])), Expect(Len(3)) } },
-    Story { name: "a length counts the old array alone", hasher: ScriptHash::Spread, minimum: 0,
+    Story { name: "len counts pairs of the old array", hasher: ScriptHash::Spread, minimum: 0,
         start: DOUBLED, steps: steps! { Expect(Len(63)), Expect(Slots(128, Some(0))) } },
     // The next array has the length of the raised minimum.
-    Story { name: "a cleared table forgets its arrays and tickets", hasher: ScriptHash::Spread,
+    Story { name: "clear drops the arrays and the tickets", hasher: ScriptHash::Spread,
         minimum: 4096, start: ONE_UNIT_LEFT, steps: steps! {
             Rehash(IssueTicket(2048)), Expect(Slots(8192, Some(4097))), Clear,
             Expect(Slots(0, None)), Expect(Len(0)), Expect(Each(&[])),

@@ -17,7 +17,7 @@ fn main(rt: HostRuntime) -> io::Result<()> {
         *granted = bucket.reserve_slots(*slots).is_ok();
     }
     for (slots, granted) in ASKED.iter().zip(granted.iter()) {
-        println!(rt; "{slots} {}", if *granted { "granted" } else { "refused" })?;
+        println!(rt; "{slots} {}", if *granted { "reserved" } else { "failed" })?;
     }
     Ok(())
 }

@@ -34,14 +34,14 @@ fn main(rt: HostRuntime) -> ExitCode {
             let (copied, uncopied) = (course.copied, course.uncopied);
             let written = match name {
                 "cache" => println!(rt;
-                    "{hasher:?} {name}: {CALLS} calls, {refused} refused, {judged}"
+                    "{hasher:?} {name}: {CALLS} calls, {refused} failed, {judged}"
                 ),
                 "index" => println!(rt;
-                    "{hasher:?} {name}: {CALLS} calls, {put} pairs put, {refused} refused, {judged}"
+                    "{hasher:?} {name}: {CALLS} calls, {put} pairs put, {refused} failed, {judged}"
                 ),
                 _ => println!(rt;
                     "{hasher:?} {name}: {CALLS} calls, {put} pairs put, {copied} copied, \
-                     {uncopied} not copied, {refused} refused, {judged}"
+                     {uncopied} not copied, {refused} failed, {judged}"
                 ),
             };
             if written.is_err() {

@@ -169,7 +169,7 @@ pub(crate) fn relocate(table: &mut Map, index: usize, pairs: usize) -> Answer {
 /// Returns whether an old bucket is killed, and how many pairs it has.
 pub(crate) fn old_bucket(table: &Map, index: usize) -> Option<(bool, usize)> {
     let array = table.linked_array()?;
-    array.room();
+    array.fact_room();
     if index >= array.len() {
         return None;
     }
@@ -185,7 +185,7 @@ pub(crate) fn stands(table: &Map, key: u64, index: usize, slot: usize) -> bool {
         (None, Some(current)) => current,
         (None, None) => return false,
     };
-    array.room();
+    array.fact_room();
     if index >= array.len() {
         return false;
     }

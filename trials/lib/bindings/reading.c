@@ -1,25 +1,14 @@
-// Reads all pairs of each kind whose keys are byte strings, bucket by bucket and from a place, into buffers of several lengths.
-// Exits with 1 at the first check that fails, otherwise with 0. It is both C and C++.
-#include "bucket.h"
+// Reads all pairs of each kind whose keys are byte strings, bucket by bucket and from a place, into
+// buffers of several lengths. Exits with 1 if a case fails, otherwise with 0. It is both C and C++.
+#include "cases.h"
 
-#include <stdio.h>
 #include <stdlib.h>
-#include <string.h>
-
-#define CHECK(holds)                                   \
-    do {                                               \
-        if (!(holds)) {                                \
-            printf("line %d: %s\n", __LINE__, #holds); \
-            return 1;                                  \
-        }                                              \
-    } while (0)
 
 #define ENTRIES 2000
 #define LONGEST 40
 
-enum kinds { TEXT_MAP, TEXT_SET, TEXT_CACHE, STORE, KINDS };
-
-// Makes the key of a number, of 0 to LONGEST bytes: dots, as many as the number determines, and then the number in decimal.
+// Makes the key of a number, of 0 to LONGEST bytes: dots, as many as the number determines, and
+// then the number in decimal.
 static size_t key_of(size_t number, uint8_t *key) {
     char digits[24];
     size_t dots = number % 37, len = (size_t)snprintf(digits, sizeof digits, "%zu", number);
@@ -30,16 +19,6 @@ static size_t key_of(size_t number, uint8_t *key) {
 
 static uint64_t value_of(int kind, size_t number) {
     return kind == TEXT_SET ? 0 : kind == STORE ? number % 50 : number + 7000;
-}
-
-static uint32_t open_kind(int kind, bucket_handle *handle) {
-    bucket_seed seed = {3, 4};
-    switch (kind) {
-    case TEXT_MAP: return bucket_text_map_new(handle, 0, seed);
-    case TEXT_SET: return bucket_text_set_new(handle, seed);
-    case TEXT_CACHE: return bucket_text_cache_new(handle, 1 << 14, 1 << 14, seed);
-    default: return bucket_store_new(handle, 0, seed);
-    }
 }
 
 static uint32_t put(int kind, bucket_handle *handle, size_t number) {
@@ -53,6 +32,19 @@ static uint32_t put(int kind, bucket_handle *handle, size_t number) {
     case TEXT_CACHE: return bucket_text_cache_put(handle, key, len, value, gone, sizeof gone, &gone_len, &before);
     default: return bucket_store_insert(handle, key, len, zeros, (size_t)value);
     }
+}
+
+// Opens a handle of a kind, with ENTRIES pairs. A cache with so many slots evicts none of them.
+static int open_full(int kind, bucket_handle *handle) {
+    uint32_t code = kind == TEXT_CACHE ? bucket_text_cache_new(handle, 1 << 14, 1 << 14, seed)
+                                       : open_kind(kind, handle);
+    ABOUT("%s", kind_name(kind));
+    CHECK(code == BUCKET_OK);
+    for (size_t number = 0; number < ENTRIES; number++) {
+        CHECK(put(kind, handle, number) == BUCKET_OK);
+    }
+    CHECK(bucket_len(handle) == ENTRIES);
+    return 0;
 }
 
 // Notes the pairs that were read: each is one that was put, with its value, and is read once.
@@ -131,10 +123,10 @@ static int read_by_bucket(int kind, const bucket_handle *handle) {
     return 0;
 }
 
-// A key that is longer than the buffer stops the reading, with nothing written, until the buffer is long enough.
+// A key that is longer than the buffer stops the reading, with nothing written, until the buffer is
+// long enough.
 static int longer_keys(void) {
     bucket_handle map = BUCKET_HANDLE;
-    bucket_seed seed = {3, 4};
     bucket_place place = BUCKET_START;
     bucket_text_pair row = {5, 6};
     uint8_t bytes[8] = {1, 2, 3, 4, 5, 6, 7, 8};
@@ -156,22 +148,43 @@ static int longer_keys(void) {
     return 0;
 }
 
-int main(void) {
+static int by_bucket(void) {
+    for (int kind = TEXT_MAP; kind < KINDS; kind++) {
+        bucket_handle handle = BUCKET_HANDLE;
+        CHECK(open_full(kind, &handle) == 0);
+        CHECK(read_by_bucket(kind, &handle) == 0);
+        bucket_free(&handle);
+    }
+    return 0;
+}
+
+static int by_place(void) {
     static const size_t rooms[][2] = {{1, LONGEST}, {3, LONGEST}, {ENTRIES, LONGEST}, {7, 200}, {64, 1 << 12},
                                       {ENTRIES, ENTRIES *LONGEST}};
-    for (int kind = 0; kind < KINDS; kind++) {
+    for (int kind = TEXT_MAP; kind < KINDS; kind++) {
         bucket_handle handle = BUCKET_HANDLE;
-        CHECK(open_kind(kind, &handle) == BUCKET_OK);
-        for (size_t number = 0; number < ENTRIES; number++) {
-            CHECK(put(kind, &handle, number) == BUCKET_OK);
-        }
-        CHECK(bucket_len(&handle) == ENTRIES && read_by_bucket(kind, &handle) == 0);
+        CHECK(open_full(kind, &handle) == 0);
         for (size_t i = 0; i < sizeof rooms / sizeof *rooms; i++) {
+            ABOUT("%s, %d rows, %d bytes", kind_name(kind), (int)rooms[i][0], (int)rooms[i][1]);
             CHECK(read_by_place(kind, &handle, rooms[i][0], rooms[i][1]) == 0);
         }
         bucket_free(&handle);
     }
-    CHECK(longer_keys() == 0);
-    printf("%d pairs of %d kinds are read from a place and by bucket, each once\n", ENTRIES, KINDS);
+    return 0;
+}
+
+static const test_case cases[] = {
+    {"texts_in and pairs_in read each pair of each bucket once", by_bucket},
+    {"read_texts reads each pair once, in rooms of several lengths", by_place},
+    {"read_texts stops at a key that is longer than its room for bytes", longer_keys},
+    {NULL, NULL},
+};
+
+int main(void) {
+    const bucket_seed keyed = {3, 4};
+    if (run_cases("reading", cases, &keyed, 1) != 0) {
+        return 1;
+    }
+    printf("%d pairs of %d kinds are read from a place and by bucket, each once\n", ENTRIES, KINDS - TEXT_MAP);
     return 0;
 }

@@ -1,14 +1,13 @@
-// Makes each allocation in turn fail, and all after it. Exits with 1 if a call then returns anything but NO_MEMORY, a pair is
-// lost, or memory isn't freed. Link with -Wl,--wrap=malloc,--wrap=realloc,--wrap=free.
-#include "bucket.h"
+// Makes each allocation in turn fail, and all after it. Exits with 1 if a call then returns
+// anything but NO_MEMORY, a pair is lost, or memory isn't freed. Link with
+// -Wl,--wrap=malloc,--wrap=realloc,--wrap=free.
+#include "cases.h"
 
-#include <stdio.h>
 #include <stdlib.h>
-#include <string.h>
 
-static size_t left = SIZE_MAX;
-static bool refused;
-static long held;
+static size_t left = SIZE_MAX; // how many allocations succeed before the others fail
+static bool refused;           // whether one has failed
+static long held;              // how many blocks are allocated
 
 void *__real_malloc(size_t size);
 void *__real_realloc(void *block, size_t size);
@@ -42,23 +41,8 @@ void __wrap_free(void *block) {
 
 #define ENTRIES 3000
 
-enum kind { MAP, TEXT_MAP, SET, TEXT_SET, STORE, CACHE, TEXT_CACHE, KINDS };
-
 // What a look-up returns here if the value isn't the one that was put.
 enum { WRONG = 99 };
-
-static uint32_t open_kind(enum kind kind, bucket_handle *handle) {
-    bucket_seed seed = BUCKET_FIXED_SEED;
-    switch (kind) {
-    case MAP: return bucket_map_new(handle, 0, seed);
-    case TEXT_MAP: return bucket_text_map_new(handle, 0, seed);
-    case SET: return bucket_set_new(handle, seed);
-    case TEXT_SET: return bucket_text_set_new(handle, seed);
-    case STORE: return bucket_store_new(handle, 0, seed);
-    case CACHE: return bucket_cache_new(handle, 0, 1 << 20, seed);
-    default: return bucket_text_cache_new(handle, 0, 1 << 20, seed);
-    }
-}
 
 // The four calls that put a pair into a map, in turn. A present pair stays as it is.
 static uint32_t put_map(bucket_handle *handle, uint64_t key, bool is_there) {
@@ -82,8 +66,9 @@ static uint32_t put_text_map(bucket_handle *handle, uint64_t key, bool is_there)
     }
 }
 
-// Puts a pair with one of its kind's calls: PRESENT if the key is present, and then nothing is allocated.
-static uint32_t put(enum kind kind, bucket_handle *handle, uint64_t key, bool is_there) {
+// Puts a pair with one of its kind's calls: PRESENT if the key is present, and then nothing is
+// allocated.
+static uint32_t put(int kind, bucket_handle *handle, uint64_t key, bool is_there) {
     const uint8_t *bytes = (const uint8_t *)&key;
     uint8_t gone[8];
     uint64_t word, other;
@@ -105,7 +90,7 @@ static uint32_t put(enum kind kind, bucket_handle *handle, uint64_t key, bool is
 }
 
 // Looks up a key, and its value if the kind has values.
-static uint32_t has(enum kind kind, const bucket_handle *handle, uint64_t key) {
+static uint32_t has(int kind, const bucket_handle *handle, uint64_t key) {
     const uint8_t *bytes = (const uint8_t *)&key;
     uint64_t word = key;
     size_t len = 8;
@@ -122,7 +107,7 @@ static uint32_t has(enum kind kind, const bucket_handle *handle, uint64_t key) {
     return word == key && len == 8 ? code : (uint32_t)WRONG;
 }
 
-static uint32_t take(enum kind kind, bucket_handle *handle, uint64_t key) {
+static uint32_t take(int kind, bucket_handle *handle, uint64_t key) {
     const uint8_t *bytes = (const uint8_t *)&key;
     uint64_t word;
     switch (kind) {
@@ -139,100 +124,103 @@ static uint32_t take(enum kind kind, bucket_handle *handle, uint64_t key) {
 }
 
 // Reading all pairs allocates nothing, and returns as many as there are.
-static bool reads_all(const bucket_handle *handle) {
+static int reads_all(const bucket_handle *handle) {
     size_t bucket = 0, all = 0, count = 0;
     bucket_pair pairs[64];
     while (bucket_pairs_in(handle, bucket, 0, pairs, 64, &count) == BUCKET_OK && count < 64) {
         all += count;
         bucket++;
     }
-    return all == bucket_len(handle);
+    CHECK(all == bucket_len(handle));
+    return 0;
 }
 
-// The keys below `end` that were put are present, and no others. Putting one of them again allocates nothing.
-static bool holds(enum kind kind, bucket_handle *handle, const bool *is_in, uint64_t end, size_t in) {
-    if (bucket_len(handle) != in || !reads_all(handle)) {
-        return false;
-    }
+// The keys below `end` that were put are present, and no others. Putting one of them again
+// allocates nothing.
+static int holds_all(int kind, bucket_handle *handle, const bool *is_in, uint64_t end, size_t in) {
+    CHECK(bucket_len(handle) == in);
+    CHECK(reads_all(handle) == 0);
     for (uint64_t key = 0; key < end; key++) {
-        if (has(kind, handle, key) != (is_in[key] ? BUCKET_OK : BUCKET_ABSENT) ||
-            (is_in[key] && put(kind, handle, key, true) != BUCKET_PRESENT)) {
-            return false;
-        }
+        CHECK(has(kind, handle, key) == (is_in[key] ? BUCKET_OK : BUCKET_ABSENT));
+        CHECK(!is_in[key] || put(kind, handle, key, true) == BUCKET_PRESENT);
     }
-    return bucket_len(handle) == in;
+    CHECK(bucket_len(handle) == in);
+    return 0;
 }
 
-// Removals work without memory; then memory is back, and nothing is left. If pairs were evicted, any key may be absent.
-static bool removes(enum kind kind, bucket_handle *handle, const bool *is_in, bool has_evicted) {
+// Removals work without memory; then memory is back, and nothing is left. If pairs were evicted,
+// any key may be absent.
+static int removes_all(int kind, bucket_handle *handle, const bool *is_in, bool has_evicted) {
     for (uint64_t key = 0; key < ENTRIES; key++) {
         uint32_t code = take(kind, handle, key);
-        if (!has_evicted && code != (is_in[key] ? BUCKET_OK : BUCKET_ABSENT)) {
-            return false;
-        }
+        CHECK(has_evicted || code == (is_in[key] ? BUCKET_OK : BUCKET_ABSENT));
     }
     left = SIZE_MAX;
     for (uint64_t key = 0; !has_evicted && key < ENTRIES; key++) {
-        if (take(kind, handle, key) != BUCKET_ABSENT) {
-            return false;
-        }
+        CHECK(take(kind, handle, key) == BUCKET_ABSENT);
     }
-    return true;
+    return 0;
 }
 
-// Memory is back, and the handle is freed, and so are all blocks. Returns 1 if an allocation failed, 0 if none did, -1 if something
-// was wrong.
-static int ended(bucket_handle *handle, bool is_right, bool was_refused) {
+// Memory is back, and the handle is freed, and so are all blocks.
+static int ended(bucket_handle *handle) {
     left = SIZE_MAX;
     bucket_free(handle);
-    return is_right && held == 0 ? was_refused : -1;
+    CHECK(held == 0);
+    return 0;
 }
 
-// Puts keys while the allocation at `at` and all after it fail. Returns as `ended`.
-static int run(enum kind kind, size_t at) {
+// Puts keys while the allocation at `at` and all after it fail. Sets `any` if one failed.
+static int puts_all(int kind, size_t at, bool *any) {
     static bool is_in[ENTRIES];
     bucket_handle handle = BUCKET_HANDLE;
-    size_t in = 0, evicted = 0, first = ENTRIES;
+    size_t in = 0, evicted = 0;
     left = at;
     refused = false;
     if (open_kind(kind, &handle) == BUCKET_NO_MEMORY) {
-        return ended(&handle, refused && has(kind, &handle, 0) == BUCKET_CLOSED, true);
+        *any = true;
+        CHECK(refused);
+        CHECK(has(kind, &handle, 0) == BUCKET_CLOSED);
+        return ended(&handle);
     }
     for (uint64_t key = 0; key < ENTRIES; key++) {
         refused = false;
         uint32_t code = put(kind, &handle, key, false);
+        bool is_first = code == BUCKET_NO_MEMORY && !*any;
         is_in[key] = code != BUCKET_NO_MEMORY;
+        in += is_in[key];
         evicted += code == BUCKET_EVICTED;
-        if (code == BUCKET_OK || code == BUCKET_EVICTED) {
-            in++;
-        } else if (code != BUCKET_NO_MEMORY || !refused || has(kind, &handle, key) != BUCKET_ABSENT) {
-            return ended(&handle, false, true);
-        } else if (first == ENTRIES) {
-            first = key;
+        if (code == BUCKET_NO_MEMORY) {
+            *any = true;
+            CHECK(refused);
+            CHECK(has(kind, &handle, key) == BUCKET_ABSENT);
         }
+        CHECK(code == BUCKET_NO_MEMORY || code == BUCKET_OK || code == BUCKET_EVICTED);
+        CHECK(bucket_len(&handle) + evicted == in);
         // No pair is lost, neither right after the first failure nor at the end.
-        bool is_asked = evicted == 0 && (key == first || key + 1 == ENTRIES);
-        if (bucket_len(&handle) + evicted != in || (is_asked && !holds(kind, &handle, is_in, key + 1, in))) {
-            return ended(&handle, false, true);
+        if (evicted == 0 && (is_first || key + 1 == ENTRIES)) {
+            CHECK(holds_all(kind, &handle, is_in, key + 1, in) == 0);
         }
     }
-    return ended(&handle, removes(kind, &handle, is_in, evicted > 0), first < ENTRIES);
+    CHECK(removes_all(kind, &handle, is_in, evicted > 0) == 0);
+    return ended(&handle);
 }
 
-// Opens a handle, puts this many keys, and returns whether all were inserted.
-static bool fill(enum kind kind, bucket_handle *handle, uint64_t entries) {
-    bool are_in = open_kind(kind, handle) == BUCKET_OK;
+// Opens a handle, and puts the keys below `entries`.
+static int fill(int kind, bucket_handle *handle, uint64_t entries) {
+    CHECK(open_kind(kind, handle) == BUCKET_OK);
     for (uint64_t key = 0; key < entries; key++) {
-        are_in = are_in && put(kind, handle, key, false) == BUCKET_OK;
+        CHECK(put(kind, handle, key, false) == BUCKET_OK);
     }
-    return are_in;
+    return 0;
 }
 
-// Puts longer values into a store in place of the present ones, as run. If one fails, the earlier value stays.
-static int run_values(size_t at) {
+// Puts longer values into a store in place of the present ones, as puts_all. If one fails, the
+// earlier value stays.
+static int replaces_values(int kind, size_t at, bool *any) {
     static const uint8_t longer[40] = {1, 2, 3};
     bucket_handle handle = BUCKET_HANDLE;
-    bool is_right = fill(STORE, &handle, 50), any = false;
+    CHECK(fill(kind, &handle, 50) == 0);
     left = at;
     for (uint64_t key = 0; key < 50; key++) {
         const uint8_t *bytes = (const uint8_t *)&key;
@@ -240,12 +228,14 @@ static int run_values(size_t at) {
         size_t len = 0;
         refused = false;
         uint32_t code = bucket_store_upsert(&handle, bytes, 8, longer, sizeof longer);
-        uint32_t found = bucket_store_get(&handle, bytes, 8, out, sizeof out, &len);
-        is_right = is_right && code == (refused ? BUCKET_NO_MEMORY : BUCKET_PRESENT) && found == BUCKET_OK &&
-            (refused ? len == 8 && memcmp(out, bytes, 8) == 0 : len == sizeof longer && memcmp(out, longer, len) == 0);
-        any = any || refused;
+        CHECK(code == (refused ? BUCKET_NO_MEMORY : BUCKET_PRESENT));
+        CHECK(bucket_store_get(&handle, bytes, 8, out, sizeof out, &len) == BUCKET_OK);
+        CHECK(len == (refused ? 8 : sizeof longer));
+        CHECK(memcmp(out, refused ? bytes : longer, len) == 0);
+        *any = *any || refused;
     }
-    return ended(&handle, is_right && bucket_len(&handle) == 50, any);
+    CHECK(bucket_len(&handle) == 50);
+    return ended(&handle);
 }
 
 static bool is_odd(uint64_t key, uint64_t value, void *data) {
@@ -253,42 +243,72 @@ static bool is_odd(uint64_t key, uint64_t value, void *data) {
     return key % 2 == 1;
 }
 
-// Removes all odd keys with one call, as run. If that fails, all stay.
-static int run_removals(enum kind kind, size_t at) {
+// Removes all odd keys with one call, as puts_all. If that fails, all stay.
+static int removes_odd(int kind, size_t at, bool *any) {
     static bool is_in[ENTRIES];
     bucket_handle handle = BUCKET_HANDLE;
     size_t removed = 79;
-    bool is_right = fill(kind, &handle, ENTRIES);
+    CHECK(fill(kind, &handle, ENTRIES) == 0);
     left = at;
     refused = false;
     uint32_t code = kind == SET ? bucket_set_remove_if(&handle, is_odd, NULL, &removed)
                                 : bucket_map_remove_if(&handle, is_odd, NULL, &removed);
-    bool any = refused;
+    *any = refused;
     for (uint64_t key = 0; key < ENTRIES; key++) {
-        is_in[key] = any || key % 2 == 0;
+        is_in[key] = *any || key % 2 == 0;
     }
-    is_right = is_right && code == (any ? BUCKET_NO_MEMORY : BUCKET_OK) && removed == (any ? 79 : ENTRIES / 2) &&
-        holds(kind, &handle, is_in, ENTRIES, any ? ENTRIES : ENTRIES / 2);
-    return ended(&handle, is_right, any);
+    CHECK(code == (*any ? BUCKET_NO_MEMORY : BUCKET_OK));
+    CHECK(removed == (*any ? 79 : ENTRIES / 2));
+    CHECK(holds_all(kind, &handle, is_in, ENTRIES, *any ? ENTRIES : ENTRIES / 2) == 0);
+    return ended(&handle);
 }
 
-int main(void) {
-    size_t all = 0;
-    // The rows after the kinds: the values of a store, and the removals of many from a map and from a set.
-    for (int row = 0; row < KINDS + 3; row++) {
-        // In a kind with byte strings, the later allocations are mostly copies of keys, so only every 37th fails.
-        bool has_texts = row == TEXT_MAP || row == TEXT_SET || row == STORE || row == TEXT_CACHE;
-        int found = 1;
-        for (size_t at = 0; found == 1; at += has_texts && at > 200 ? 37 : 1, all++) {
-            found = row < KINDS ? run((enum kind)row, at)
-                : row == KINDS  ? run_values(at)
-                                : run_removals(row == KINDS + 1 ? MAP : SET, at);
-        }
-        if (found != 0) {
-            printf("row %d: wrong after a failed allocation\n", row);
-            return 1;
-        }
+// How many runs there were.
+static size_t runs;
+
+// Runs a test with each allocation failing in turn, until none fails.
+static int in_turn(int kind, int (*test)(int kind, size_t at, bool *any)) {
+    // If keys are byte strings, the later allocations are mostly copies of keys, so only every 37th
+    // fails.
+    size_t step = kind >= TEXT_MAP ? 37 : 1;
+    bool any = true;
+    for (size_t at = 0; any; at += at > 200 ? step : 1, runs++) {
+        ABOUT("%s, allocation %zu", kind_name(kind), at);
+        left = SIZE_MAX;
+        held = 0;
+        any = false;
+        CHECK(test(kind, at, &any) == 0);
     }
-    printf("%zu allocations failed in turn: every answer is correct\n", all);
+    return 0;
+}
+
+static int puts_of_each_kind(void) {
+    for (int kind = 0; kind < KINDS; kind++) {
+        CHECK(in_turn(kind, puts_all) == 0);
+    }
+    return 0;
+}
+
+static int values_of_a_store(void) { return in_turn(STORE, replaces_values); }
+
+static int removals_of_many(void) {
+    CHECK(in_turn(MAP, removes_odd) == 0);
+    CHECK(in_turn(SET, removes_odd) == 0);
+    return 0;
+}
+
+static const test_case cases[] = {
+    {"a put that fails loses no pair", puts_of_each_kind},
+    {"a longer value of a store that can't be allocated leaves the earlier one", values_of_a_store},
+    {"map_remove_if and set_remove_if that fail remove nothing", removals_of_many},
+    {NULL, NULL},
+};
+
+int main(void) {
+    const bucket_seed fixed = BUCKET_FIXED_SEED;
+    if (run_cases("refused", cases, &fixed, 1) != 0) {
+        return 1;
+    }
+    printf("%zu allocations failed in turn: every answer is correct\n", runs);
     return 0;
 }

@@ -160,7 +160,7 @@ impl<K: Key, V> Map<K, V> {
 }
 
 /// An iterator over the pairs that a closure removes from a map. Created by [`Map::extract_if`].
-#[must_use = "iterators are lazy: `retain` removes pairs that nobody wants"]
+#[must_use = "iterators are lazy: use `retain` if the removed pairs aren't needed"]
 pub struct ExtractIf<'a, K, V, F> {
     sieve: Sieve<'a, K, V>,
     takes: F,

@@ -17,7 +17,7 @@ pub struct IntoIter<K>(pub(super) map::IntoKeys<K, ()>);
 pub struct Drain<'a, K>(pub(super) map::Drain<'a, K, ()>);
 
 /// An iterator over the keys that a closure removes from a set. Created by [`Set::extract_if`].
-#[must_use = "iterators are lazy: `retain` removes keys that nobody wants"]
+#[must_use = "iterators are lazy: use `retain` if the removed keys aren't needed"]
 pub struct ExtractIf<'a, K, F> {
     sieve: Sieve<'a, K, ()>,
     takes: F,

@@ -85,7 +85,7 @@ impl Drop for Counted {
         dropped.set(dropped.get() + 1);
         assert!(there.get() >= 0, "a value is dropped twice");
         if self.panics {
-            panic!("{} panics as it is dropped", self.number);
+            panic!("{} panics when dropped", self.number);
         }
     }
 }

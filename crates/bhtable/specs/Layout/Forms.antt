@@ -17,6 +17,6 @@ form_word (Calls model) = (call_line model).0
 abbrev pub Begins : List Part → Request → List Part → Type 0
 Begins parts request rest = (parts ≡ (request_line request).1 ++ rest) × IsInRange request
 
--- no request asks for these parts
+-- these parts are no request
 abbrev pub AsksNothing : List Part → Type 0
 AsksNothing parts = (request : Request) → Asks parts request → ⊥

@@ -38,7 +38,7 @@ abbrev pub table_at_hand : Option Table → Option ScriptTable
 table_at_hand None = None
 table_at_hand (Some table) = Some (table_of table)
 
--- the lines that have words ask for these calls, and none is too long
+-- the lines that have words request these calls, and none is too long
 abbrev pub AskForCalls : List (List ℕ) → List (Call ℕ ℕ) → Type 0
 AskForCalls [] calls = calls ≡ []
 AskForCalls (line ∷ lines) calls =
@@ -61,7 +61,7 @@ pub record HasRepliedSome (start output : Option (List ℕ)) (waiting : List ℕ
   pub in_order : lines ≡ first ++ others
   pub replied : HasReplied start output waiting first table
 
--- the first of these lines are answered, and the calls that the others ask for wait
+-- the first of these lines are answered, and the calls of the others wait
 pub record HasTaken (start output : Option (List ℕ)) (session : Session) (lines : List (List ℕ)) : Type 0 where
   pub answered : List (List ℕ)
   pub waiting : List (List ℕ)

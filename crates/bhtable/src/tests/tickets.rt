@@ -28,7 +28,7 @@ macro_rules! works {
 }
 
 pub(super) const STORIES: &[Story] = rows! {
-    ("a unit that was given up is handed out again", rows! { TWO_UNITS, tickets! {
+    ("an abandoned unit is issued again", rows! { TWO_UNITS, tickets! {
         "start" => "ticket 0", "2049";
         "start" => "ticket 2048", "4098";
         "start" => "none", "4098";
@@ -49,7 +49,7 @@ pub(super) const STORIES: &[Story] = rows! {
         "slots" => "8192", "none";
         "count" => "1", "none";
     } }),
-    ("a ticket ends once, and with success where its unit is done", rows! { TWO_UNITS, tickets! {
+    ("a ticket ends once, and with success only if its unit is done", rows! { TWO_UNITS, tickets! {
         "end 2048 done" => "refused 1", "0";
         "start" => "ticket 0", "2049";
         "end 2048 fail" => "refused 1", "2049";
@@ -72,7 +72,7 @@ pub(super) const STORIES: &[Story] = rows! {
     } }),
     // The second unit's first ticket is abandoned while the first unit fails, so that both are
     // issued again.
-    ("a ticket ends as often as it was handed out", rows! { TWO_UNITS, tickets! {
+    ("a ticket ends as often as it was issued", rows! { TWO_UNITS, tickets! {
         "start" => "ticket 0", "2049";
         "start" => "ticket 2048", "4098";
         "end 0 fail" => "stays", "1";

@@ -1,4 +1,4 @@
--- The own slots of a bucket in order of use: the listed ones, then the others, each once.
+-- The own slots of a bucket in LRU order: the listed ones, newest first, then the others, each once.
 use Rattle.bucket_slots.proofs.Words.{All, All-append, All-cons, All-head, All-nil, All-tail, IsRecencyOrder, List, [], ap, append-nil}
 use Rattle.bucket_slots.proofs.Words.{append_assoc, arith, cases_Bool, cases_eq, false, inl, inr, is_listed, length, length-append}
 use Rattle.bucket_slots.proofs.Words.{ne_eqb, order_without, refl, replicate, set, subst, suc, sym, take, true}
@@ -91,7 +91,7 @@ once_is_order (slot ∷ slots) below =
     order_with slot _ (All-head (λ slot. slot < 32) slot slots below) (is_listed-order_without (each_once slots) slot)
     (without_order (each_once slots) slot rest)
 
--- the order of use has at least 32 slots
+-- the LRU order has at least 32 slots
 once_long : (first : List ℕ) → All (λ slot. slot < 32) first → 32 ≤ length (slots_by_use 32 first)
 once_long [] below = omega arith
 once_long (slot ∷ slots) below =

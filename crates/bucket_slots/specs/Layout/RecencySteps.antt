@@ -26,7 +26,7 @@ LinksBefore old new newest slot =
     → is_listed order slot ≡ false
     → Links new (slot ∷ order)
 
--- the result says whether a slot other than the newest is listed
+-- the result is whether a slot other than the newest is listed
 abbrev pub TellsListed : List (ℕ × ℕ) → ℕ → Bool → Type 0
 TellsListed pairs slot answer =
     (order : List ℕ) → Links pairs order → is_newest order slot ≡ false → answer ≡ is_listed order slot

@@ -7,7 +7,7 @@ use std::marker::Model;
 /// A test of keys that counts how often it was asked.
 pub trait KeyProbe<K> {
     /// Which keys it matches.
-    ghost wants: { Self → K → Bool };
+    ghost matches: { Self → K → Bool };
 
     /// How often it was asked.
     ghost asked: { Self → ℕ };
@@ -15,9 +15,9 @@ pub trait KeyProbe<K> {
     /// Returns whether it matches this key, and counts the question, up to 2^64 - 1. Which keys it
     /// matches doesn't change.
     fn same(&mut self, key: &K) -> bool
-        ensures answer { result ≡ wants self.old key.now }
+        ensures answer { result ≡ matches self.old key.now }
         ensures counted { asked self.new ≡ min (asked self.old + 1) (2 ^ 64 - 1) }
-        ensures fixed { wants self.new ≡ wants self.old };
+        ensures fixed { matches self.new ≡ matches self.old };
 }
 
 /// A probe that matches the keys that are equal to its own.
@@ -38,7 +38,7 @@ impl<'k, K: Eq> Model for EqProbe<'k, K> {
 }
 
 impl<'k, K: Eq> EqProbe<'k, K> {
-    /// Returns a probe that hasn't been asked yet.
+    /// Returns a probe that hasn't compared a key yet.
     ///
     /// O(1).
     pub fn new(key: &'k K) -> Self
@@ -59,7 +59,7 @@ impl<'k, K: Eq> EqProbe<'k, K> {
 }
 
 impl<'k, K: Eq> KeyProbe<K> for EqProbe<'k, K> {
-    ghost wants = { λ probe key. K.eq key probe.key };
+    ghost matches = { λ probe key. K.eq key probe.key };
 
     ghost asked = { λ probe. probe.asked };
 

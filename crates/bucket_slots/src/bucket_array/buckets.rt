@@ -17,7 +17,7 @@ ghost use Rattle.bucket_slots.specs.BucketView.{empty_bucket, slot_in};
 ghost use Rattle.bucket_slots.specs.Masks.{IsMaskOf};
 ghost use Rattle.bucket_slots.specs.Placing.{slots_with};
 ghost use Rattle.bucket_slots.specs.Removing.{slots_without};
-ghost use Rattle.bucket_slots.specs.Searching.{has_byte, matching_len, place_wanted};
+ghost use Rattle.bucket_slots.specs.Searching.{has_byte, matching_len, place_matched};
 ghost use Rattle.bucket_slots.specs.Sizing.{IsLength};
 ghost use Rattle.bucket_slots.specs.Slots.{is_free, is_live, live_pair, slot_at};
 ghost use Rattle.bucket_slots.specs.Spreading.{IsShifted, SpreadsSome};
@@ -131,7 +131,7 @@ impl<K, V, L: LruList, const TYPE: u8> Buckets<K, V, L, TYPE> {
 
     /// States that a bucket takes fewer than 2^63 bytes; does nothing at run time.
     #[inline(always)]
-    pub(crate) fn room(&self)
+    pub(crate) fn fact_room(&self)
         ensures { BucketFits K.row V.row L.row TYPE.row
             (record { KEEPS = L.KEEPS; listed = L.listed; IsTail = L.IsTail }) L.Default }
     {
@@ -144,7 +144,7 @@ impl<K, V, L: LruList, const TYPE: u8> Buckets<K, V, L, TYPE> {
         requires { index < length self.now }
         ensures { result.now ≡ bucket_at self.now index }
     {
-        self.room();
+        self.fact_room();
         if self.len <= SHORT_LEN {
             return &self.beside[index];
         }
@@ -180,7 +180,7 @@ impl<K, V, L: LruList, const TYPE: u8> Buckets<K, V, L, TYPE> {
             self.entry index result) }
         ensures bucket { result.now ≡ bucket_at self.old index }
     {
-        self.room();
+        self.fact_room();
         let (part, offset) = place_of(index, self.part_bits, self.part_mask);
         let held = &mut self.parts[part];
         held.bucket_mut(offset)
@@ -196,7 +196,7 @@ impl<K, V, L: LruList, const TYPE: u8> Buckets<K, V, L, TYPE> {
             × (is_live (slot_at (bucket_at self.now index).own pos) ≡ true) }
         ensures { result.now ≡ bucket_at self.now index }
     {
-        self.room();
+        self.fact_room();
         let (part, offset) = place_of(index, self.part_bits, self.part_mask);
         self.parts[part].made_bucket(offset)
     }
@@ -215,7 +215,7 @@ impl<K, V, L: LruList, const TYPE: u8> Buckets<K, V, L, TYPE> {
             self.entry index result) }
         ensures bucket { result.now ≡ bucket_at self.old index }
     {
-        self.room();
+        self.fact_room();
         let (part, offset) = place_of(index, self.part_bits, self.part_mask);
         let held = &mut self.parts[part];
         held.made_bucket_mut(offset)
@@ -237,7 +237,7 @@ impl<K, V, L: LruList, const TYPE: u8> Buckets<K, V, L, TYPE> {
         requires mask { IsMaskOf (has_byte (hash % 256)) (bucket_at self.now index).own candidates }
         requires chainless { (bucket_at self.now index).chain ≡ [] }
         ensures place { option_map (λ found. found.0) result
-            ≡ place_wanted (P.wants probe.old) (hash % 256) (bucket_at self.now index) }
+            ≡ place_matched (P.matches probe.old) (hash % 256) (bucket_at self.now index) }
         ensures pair { IfSome result (λ found.
             live_pair (slot_in (bucket_at self.now index) found.0)
             ≡ Some (found.1.now, found.2.now)) }
@@ -246,9 +246,9 @@ impl<K, V, L: LruList, const TYPE: u8> Buckets<K, V, L, TYPE> {
             (λ found. IsTrue (is_live (slot_in (bucket_at self.now index) found.0))) }
         ensures few { P.asked probe.new
             ≤ P.asked probe.old + matching_len (hash % 256) (bucket_at self.now index) }
-        ensures fixed { P.wants probe.new ≡ P.wants probe.old }
+        ensures fixed { P.matches probe.new ≡ P.matches probe.old }
     {
-        self.room();
+        self.fact_room();
         if candidates == 0 {
             return None;
         }
@@ -270,7 +270,7 @@ impl<K: Drop, V: Drop, L: LruList, const TYPE: u8> Buckets<K, V, L, TYPE> {
         ensures slots { self.new
             ≡ slice_set self.old index (slots_without (bucket_at self.old index) at) }
     {
-        self.room();
+        self.fact_room();
         let mut at = at;
         self.made_mut(index).remove(&mut at)
     }
@@ -289,7 +289,7 @@ impl<K: Drop, V: Drop, L: LruList, const TYPE: u8> Buckets<K, V, L, TYPE> {
         ensures slots { self.new
             ≡ slice_set self.old index (slots_with (bucket_at self.old index) pair byte) }
     {
-        self.room();
+        self.fact_room();
         self.get_long_mut(index).fill_own(lives, byte, pair)
     }
 
@@ -314,7 +314,7 @@ impl<K: Drop, V: Drop, L: LruList, const TYPE: u8> Buckets<K, V, L, TYPE> {
         // The buckets before the first one stay the same.
         ensures front { (i : ℕ) → i < start → bucket_at self.new i ≡ bucket_at self.old i }
     {
-        self.room();
+        self.fact_room();
         if self.len <= SHORT_LEN {
             self.spread_beside(source, start, len, shift, hash_of);
             return;
@@ -347,7 +347,7 @@ impl<K: Drop, V: Drop, L: LruList, const TYPE: u8> Buckets<K, V, L, TYPE> {
         if self.beside.len() - start < len {
             return;
         }
-        self.room();
+        self.fact_room();
         source.spread_own(
             self.beside.slice_mut(start..start + len),
             start,
@@ -367,7 +367,7 @@ impl<K: Drop, V: Drop, L: LruList + Drop, const TYPE: u8> Buckets<K, V, L, TYPE>
         if self.part_bits <= LEAST_PART_BITS {
             return;
         }
-        self.room();
+        self.fact_room();
         let (part, _offset) = place_of(index, self.part_bits, self.part_mask);
         self.parts[part].release();
     }
@@ -387,7 +387,7 @@ impl<K: Drop, V: Drop, L: LruList + Drop, const TYPE: u8> Buckets<K, V, L, TYPE>
         if self.part_bits != to.part_bits {
             return false;
         }
-        self.room();
+        self.fact_room();
         let (part, _offset) = place_of(index, self.part_bits, self.part_mask);
         let next = (part + 1).saturating_mul(to.parts.len()) / self.parts.len();
         let Some(fresh) = first_fresh(&to.parts, next) else {

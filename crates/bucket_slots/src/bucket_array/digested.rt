@@ -5,7 +5,7 @@ ghost use Rattle.bucket_slots.specs.ArrayView.{bucket_at};
 ghost use Rattle.bucket_slots.specs.BucketView.{pairs_in, slot_in};
 ghost use Rattle.bucket_slots.specs.Evicting.{slots_touched};
 ghost use Rattle.bucket_slots.specs.Places.{pair_lent};
-ghost use Rattle.bucket_slots.specs.Searching.{matching_len, pair_wanted, place_wanted};
+ghost use Rattle.bucket_slots.specs.Searching.{matching_len, pair_matched, place_matched};
 ghost use Rattle.bucket_slots.specs.Slots.{is_live, live_pair};
 
 use super::BucketArray;
@@ -30,12 +30,12 @@ impl<K, V, L: LruList, const TYPE: u8> BucketArray<K, V, L, TYPE> {
     ) -> Option<(&K, &V)>
         requires { index < length self.now }
         ensures pair { pair_lent result
-            ≡ pair_wanted (P.wants probe.old) (hash % 256) (bucket_at self.now index) }
+            ≡ pair_matched (P.matches probe.old) (hash % 256) (bucket_at self.now index) }
         ensures few { P.asked probe.new
             ≤ P.asked probe.old + matching_len (hash % 256) (bucket_at self.now index) }
-        ensures fixed { P.wants probe.new ≡ P.wants probe.old }
+        ensures fixed { P.matches probe.new ≡ P.matches probe.old }
     {
-        self.room();
+        self.fact_room();
         let Some((_live, left)) = self.digests.known(&self.buckets, index, hash) else {
             return self.bucket(index).peek_entry_by(hash, probe);
         };
@@ -66,7 +66,7 @@ impl<K, V, L: LruList, const TYPE: u8> BucketArray<K, V, L, TYPE> {
         if !self.buckets.is_short() {
             return false;
         }
-        self.room();
+        self.fact_room();
         self.buckets.get(index).len() < len
     }
 
@@ -80,10 +80,10 @@ impl<K, V, L: LruList, const TYPE: u8> BucketArray<K, V, L, TYPE> {
     ) -> Option<EntryPtr<K, V, TYPE>>
         requires { index < length self.now }
         ensures place { result
-            ≡ place_wanted (P.wants probe.old) (hash % 256) (bucket_at self.now index) }
-        ensures fixed { P.wants probe.new ≡ P.wants probe.old }
+            ≡ place_matched (P.matches probe.old) (hash % 256) (bucket_at self.now index) }
+        ensures fixed { P.matches probe.new ≡ P.matches probe.old }
     {
-        self.room();
+        self.fact_room();
         let Some((_live, left)) = self.digests.known(&self.buckets, index, hash) else {
             let at = self.bucket(index).get_entry_ptr_by(hash, probe);
             return if at.is_valid() { Some(at) } else { None };
@@ -106,7 +106,7 @@ impl<K, V, L: LruList, const TYPE: u8> BucketArray<K, V, L, TYPE> {
         ensures pair { live_pair (slot_in (bucket_at self.old index) at.now)
             ≡ Some (result.0.now, result.1.now) }
     {
-        self.room();
+        self.fact_room();
         self.buckets.get_mut(index).entry_mut(at)
     }
 
@@ -121,7 +121,7 @@ impl<K, V, L: LruList, const TYPE: u8> BucketArray<K, V, L, TYPE> {
         ensures { self.new ≡ slice_set self.old index
             (slots_touched L.KEEPS (bucket_at self.old index) at.now) }
     {
-        self.room();
+        self.fact_room();
         self.buckets.get_mut(index).update_lru_tail(at);
     }
 
@@ -144,7 +144,7 @@ impl<K, V, L: LruList, const TYPE: u8> BucketArray<K, V, L, TYPE> {
         if at.block() != 0 {
             return self.entry_mut(index, at);
         }
-        self.room();
+        self.fact_room();
         let bucket = self.buckets.get_mut(index);
         bucket.update_lru_tail(at);
         bucket.entry_mut(at)
@@ -161,7 +161,7 @@ impl<K, V, L: LruList, const TYPE: u8> BucketArray<K, V, L, TYPE> {
         if self.buckets.is_short() {
             return;
         }
-        self.room();
+        self.fact_room();
         let (live, bytes) = self.buckets.get(index).digest();
         self.digests.refresh(index, live, bytes);
     }

@@ -37,7 +37,7 @@ impl<K: Drop, V: Drop, L: LruList, const TYPE: u8> BucketArray<K, V, L, TYPE> {
         if !self.digests.is_stale_from(start) {
             return;
         }
-        self.room();
+        self.fact_room();
         self.buckets
             .spread(source, start, len, self.hash_offset, hash_of);
     }

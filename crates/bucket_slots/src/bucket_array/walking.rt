@@ -25,7 +25,7 @@ impl<K, V, L: LruList, const TYPE: u8> BucketArray<K, V, L, TYPE> {
         if !self.buckets.is_short() || self.buckets.len() <= index {
             return None;
         }
-        self.room();
+        self.fact_room();
         let (live, _bytes) = self.buckets.get(index).digest();
         if is_stale(live) { None } else { Some(live) }
     }
@@ -56,7 +56,7 @@ impl<K, V, L: LruList, const TYPE: u8> BucketArray<K, V, L, TYPE> {
         ensures calls { CallsEach (λ state own value last. F.step state own value tt last) f.old
             (pairs_in (bucket_at self.now index)) f.new }
     {
-        self.room();
+        self.fact_room();
         let Some(live) = self.known_own(index) else {
             self.bucket(index).for_each(f);
             return;

@@ -3,21 +3,14 @@ ghost use Rattle.std.specs.Prelude.{◌≡◌, ◌≢◌, ◌%◌, ◌<◌, OnEr
 ghost use Rattle.bucket_slots.specs.ArrayView.{bucket_at};
 ghost use Rattle.bucket_slots.specs.BucketView.{BucketView};
 ghost use Rattle.bucket_slots.specs.Clearing.{slots_after_insertion};
-ghost use Rattle.bucket_slots.specs.Digested.{AnswersPut, TakesWanted, UpsertsIn};
+ghost use Rattle.bucket_slots.specs.Digested.{AnswersInsertion, TakesMatched, UpsertsIn};
 
 use super::BucketArray;
 use super::digests::is_stale;
 use crate::bucket::{EqProbe, Generation, INDEX, KeyProbe};
 use crate::lru::LruList;
+use crate::not_inserted::NotInserted;
 use std::mem;
-
-/// Why a pair wasn't inserted, with the pair.
-pub enum NotPut<K, V> {
-    /// An equal key is in the bucket.
-    Present(K, V),
-    /// Allocation failed.
-    Memory(K, V),
-}
 
 impl<K: Drop, V: Drop, L: LruList, const TYPE: u8> BucketArray<K, V, L, TYPE> {
     /// Removes the first pair of a bucket that matches a probe. Returns it and the number of live
@@ -33,11 +26,11 @@ impl<K: Drop, V: Drop, L: LruList, const TYPE: u8> BucketArray<K, V, L, TYPE> {
     ) -> Option<((K, V), usize)>
         requires not_index { TYPE ≢ INDEX }
         requires within { index < length self.old }
-        ensures taken { TakesWanted (P.wants probe.old) (hash % 256) index self.old result
+        ensures taken { TakesMatched (P.matches probe.old) (hash % 256) index self.old result
             self.new }
-        ensures fixed { P.wants probe.new ≡ P.wants probe.old }
+        ensures fixed { P.matches probe.new ≡ P.matches probe.old }
     {
-        self.room();
+        self.fact_room();
         let Some((live, left)) = self.digests.known(&self.buckets, index, hash) else {
             return self.take_stale(index, hash, probe);
         };
@@ -61,11 +54,11 @@ impl<K: Drop, V: Drop, L: LruList, const TYPE: u8> BucketArray<K, V, L, TYPE> {
     ) -> Option<((K, V), usize)>
         requires not_index { TYPE ≢ INDEX }
         requires within { index < length self.old }
-        ensures taken { TakesWanted (P.wants probe.old) (hash % 256) index self.old result
+        ensures taken { TakesMatched (P.matches probe.old) (hash % 256) index self.old result
             self.new }
-        ensures fixed { P.wants probe.new ≡ P.wants probe.old }
+        ensures fixed { P.matches probe.new ≡ P.matches probe.old }
     {
-        self.room();
+        self.fact_room();
         let bucket = self.bucket_mut(index);
         let mut at = bucket.get_entry_ptr_by(hash, probe);
         if !at.is_valid() {
@@ -93,18 +86,18 @@ impl<K: Drop, V: Drop, L: LruList, const TYPE: u8> BucketArray<K, V, L, TYPE> {
         key: K,
         value: V,
         generation: &G,
-    ) -> Result<(), NotPut<K, V>>
+    ) -> Result<(), NotInserted<K, V>>
     where
         K: Eq,
         requires { index < length self.old }
-        ensures answer { AnswersPut K.eq key value (hash % 256) TYPE (G.keeps generation.now)
+        ensures answer { AnswersInsertion K.eq key value (hash % 256) TYPE (G.keeps generation.now)
             (bucket_at self.old index) result }
         ensures put { OnOk result (self.new ≡ slice_set self.old index
             (slots_after_insertion TYPE (G.keeps generation.now) (bucket_at self.old index)
             (key, value) (hash % 256))) }
         ensures unchanged { OnErr result (self.new ≡ self.old) }
     {
-        self.room();
+        self.fact_room();
         if TYPE == INDEX {
             return self.insert_stale(index, hash, key, value, generation);
         }
@@ -115,7 +108,7 @@ impl<K: Drop, V: Drop, L: LruList, const TYPE: u8> BucketArray<K, V, L, TYPE> {
             .buckets
             .find_among(index, left, hash, &mut EqProbe::new(&key))
         {
-            return Err(NotPut::Present(key, value));
+            return Err(NotInserted::Present(key, value));
         }
         let byte = (hash % 256) as u8;
         let pos = self.buckets.fill(index, live, byte, (key, value));
@@ -161,8 +154,8 @@ impl<K: Drop, V: Drop, L: LruList, const TYPE: u8> BucketArray<K, V, L, TYPE> {
             }
             None => match self.insert_absent(index, hash, key, value, generation) {
                 Ok(()) => Ok(None),
-                Err(NotPut::Present(_key, _value)) => unreachable!(),
-                Err(NotPut::Memory(key, value)) => Err((key, value)),
+                Err(NotInserted::Present(_key, _value)) => unreachable!(),
+                Err(NotInserted::Memory(key, value)) => Err((key, value)),
             },
         }
     }
@@ -185,7 +178,7 @@ impl<K: Drop, V: Drop, L: LruList, const TYPE: u8> BucketArray<K, V, L, TYPE> {
             (bucket_at self.old index) result left
             × (self.new ≡ slice_set self.old index left) }
     {
-        self.room();
+        self.fact_room();
         let bucket = self.bucket_mut(index);
         let at = bucket.get_entry_ptr(&key, hash);
         if at.is_valid() {
@@ -208,27 +201,27 @@ impl<K: Drop, V: Drop, L: LruList, const TYPE: u8> BucketArray<K, V, L, TYPE> {
         key: K,
         value: V,
         generation: &G,
-    ) -> Result<(), NotPut<K, V>>
+    ) -> Result<(), NotInserted<K, V>>
     where
         K: Eq,
         requires { index < length self.old }
-        ensures answer { AnswersPut K.eq key value (hash % 256) TYPE (G.keeps generation.now)
+        ensures answer { AnswersInsertion K.eq key value (hash % 256) TYPE (G.keeps generation.now)
             (bucket_at self.old index) result }
         ensures put { OnOk result (self.new ≡ slice_set self.old index
             (slots_after_insertion TYPE (G.keeps generation.now) (bucket_at self.old index)
             (key, value) (hash % 256))) }
         ensures unchanged { OnErr result (self.new ≡ self.old) }
     {
-        self.room();
+        self.fact_room();
         let bucket = self.bucket_mut(index);
         if bucket.get_entry_ptr(&key, hash).is_valid() {
-            return Err(NotPut::Present(key, value));
+            return Err(NotInserted::Present(key, value));
         }
         let placed = bucket.insert(hash, (key, value), generation);
         self.refresh(index);
         match placed {
             Ok(_) => Ok(()),
-            Err((key, value)) => Err(NotPut::Memory(key, value)),
+            Err((key, value)) => Err(NotInserted::Memory(key, value)),
         }
     }
 }

@@ -2,11 +2,11 @@
 use Rattle.bucket_table.proofs.Words.{All-permutation, Bool, Err, IsAbsent, IsEquivalence, KeepsPairs, List, MapState, Option, Result, Side}
 use Rattle.bucket_table.proofs.Words.{TableView, ℕ, ap, arith, false, length, subst, sym, true≢false, ◌%◌, ◌<◌, ◌∙◌, ◌≡◌}
 use Rattle.bucket_table.specs.Map.Finding.{FindsThen}
-use Rattle.bucket_table.specs.Map.Preparing.{HomeWantsMemory, IsPrepared}
+use Rattle.bucket_table.specs.Map.Preparing.{HomeNeedsMemory, IsPrepared}
 use Rattle.bucket_table.specs.Map.Putting.{Puts, PutsAt}
 use Rattle.bucket_table.specs.declared.hash_table.ResizeRule.TheVariants.{Sampled}
-use Rattle.bucket_table.specs.declared.hash_table.NotInserted.{NotInserted}
-use Rattle.bucket_table.specs.declared.hash_table.NotInserted.TheVariants.{Memory, Present}
+use Rattle.bucket_slots.specs.declared.not_inserted.NotInserted.{NotInserted}
+use Rattle.bucket_slots.specs.declared.not_inserted.NotInserted.TheVariants.{Memory, Present}
 use Rattle.std.proofs.lemmas.List.Elements.{All-contains}
 use Rattle.bucket_table.specs.Map.MapState.{state_of}
 use Rattle.bucket_table.proofs.Map.Putting.{refused_put}
@@ -20,7 +20,7 @@ module _ {K V H : Type 0} where
 
   -- no pair is put beside an old array, since allocation failed
   pub refused_vacant : (kind h : ℕ) (keeps : Bool) (key : K) (value : V) (first old : TableView K V H) → IsPrepared kind h first old
-      → (0 < length first.arrays.linked) × HomeWantsMemory h first.arrays old.arrays
+      → (0 < length first.arrays.linked) × HomeNeedsMemory h first.arrays old.arrays
       → FindsThen Sampled kind h first (λ answer table. PutsAt keeps (key, value) (h % 256) table (Err (Memory key value)) answer old)
   refused_vacant kind h keeps key value first old prepared vacant =
       refused_put kind h keeps (key, value) first old (Memory key value)
@@ -32,10 +32,11 @@ module _ {K V H : Type 0} where
   own_kept hash key h kind old new keeps own = own ∙ sym (ap (λ (m : MapState K V H). hash m.hasher key) keeps.others)
 
   -- an absent key is also absent in another order
-  pub absent_kept : (wants : K → Bool) (old new : MapState K V H) → KeepsPairs old new → IsAbsent wants old.pairs → IsAbsent wants new.pairs
-  absent_kept wants old new keeps absent = All-permutation (λ (p : K × V). wants p.0 ≡ false) old.pairs new.pairs keeps.pairs absent
+  pub absent_kept : (matches : K → Bool) (old new : MapState K V H) → KeepsPairs old new → IsAbsent matches old.pairs
+      → IsAbsent matches new.pairs
+  absent_kept matches old new keeps absent = All-permutation (λ (p : K × V). matches p.0 ≡ false) old.pairs new.pairs keeps.pairs absent
 
-  -- an equal key that is absent isn't there
+  -- if no key is equal, a put doesn't return that one is present
   pub never_present : (eq : K → K → Bool) (key : K) (value : V) (old new : MapState K V H) (r : Result (Option (K × V)) (NotInserted K V))
       → IsAbsent (λ own. eq own key) old.pairs → (k : K) (v : V) → r ≡ Err (Present k v) → Puts eq key value old r new → ⊥
   never_present eq key value old new r absent k v is done =

@@ -9,7 +9,7 @@ use Rattle.bucket_table.specs.Map.ByKey.{Inserts, Takes, Upserts}
 use Rattle.bucket_table.specs.Map.Counting.{CountsAfter, IsCountedMap, put_count}
 use Rattle.bucket_table.specs.Map.MapState.{state_of}
 use Rattle.bucket_table.specs.Map.Putting.{Puts, ReplacesPair}
-use Rattle.bucket_table.specs.declared.hash_table.NotInserted.{NotInserted}
+use Rattle.bucket_slots.specs.declared.not_inserted.NotInserted.{NotInserted}
 use Rattle.bucket_table.specs.Walking.Row.{row_of, row_with}
 use Rattle.bucket_table.proofs.Map.CountSteps.{length-pairs_of}
 use Rattle.bucket_table.proofs.Map.LockedSteps.{put_there}
@@ -29,7 +29,7 @@ module _ {K V : Type 0} {eq : K → K → Bool} {hash : K → ℕ} {old new : Ar
       → CountsAfter count gone added (pairs_of new) result → IsCountedMap eq hash new result
   counted_after gone added len counts = record { one_map = one; counted = counts _ was.counted len }
 
--- they are counted anew
+-- they are counted again
 pub counted_anew : {K V : Type 0} {eq : K → K → Bool} {hash : K → ℕ} {arrays : ArraysView K V} {count : ℕ} → IsOneMap eq hash arrays
     → count ≡ counted_to (entries_of arrays) → IsCountedMap eq hash arrays count
 counted_anew {arrays} one is =
@@ -129,7 +129,7 @@ module _ {K V H : Type 0} (kind : ℕ) (hasher : H) (a b : ArraysView K V) where
   abbrev new : MapState K V H
   new = state_of kind (record { hasher = hasher; arrays = b })
 
-  -- the number of inserted pairs is what the result says
+  -- the number of inserted pairs is that of the result
   pub len_inserted : {A : Type 0} (eq : K → K → Bool) (key : K) (value : V) (r : Result A (NotInserted K V)) (n : ℕ)
       → n ≡ (if is_ok r then 1 else 0) → Inserts eq key value old r new → length (pairs_of a) + n ≡ length (pairs_of b) + 0
   len_inserted eq key value (Ok done) n is x = rw is (len_added x.1)
@@ -152,9 +152,9 @@ module _ {K V H : Type 0} (kind : ℕ) (hasher : H) (a b : ArraysView K V) where
   len_put_absent eq key value None n is x = rw is (len_added x.1)
   len_put_absent eq key value (Some gone) n is x = let len = len_replaced x.1 in omega (arith, is, len)
 
-  pub len_takes : (wants : K → Bool) (first : MapState K V H) (r : Option (K × V)) (n : ℕ) → n ≡ (if is_some r then 1 else 0)
-      → KeepsPairs first old → Takes wants first r new → length (pairs_of a) + 0 ≡ length (pairs_of b) + n
-  len_takes wants first None n is kept x =
+  pub len_takes : (matches : K → Bool) (first : MapState K V H) (r : Option (K × V)) (n : ℕ) → n ≡ (if is_some r then 1 else 0)
+      → KeepsPairs first old → Takes matches first r new → length (pairs_of a) + 0 ≡ length (pairs_of b) + n
+  len_takes matches first None n is kept x =
       omega (arith, is, length_permutation _ _ x.1.pairs, length_permutation _ _ kept.pairs)
-  len_takes wants first (Some pair) n is kept x =
+  len_takes matches first (Some pair) n is kept x =
       omega (arith, is, length_permutation _ _ x.1.pairs, length_permutation _ _ kept.pairs)

@@ -2,7 +2,7 @@
 use Rattle.bucket_table.proofs.Words.{Current, Err, IfSome, IsHome, KeepsPairs, None, Ok, Old, Option, Side, Some, TableView, TakesPair, ℕ}
 use Rattle.bucket_table.proofs.Words.{bucket_on, buckets_on, inl, inr, length, refl, subst, sym, with_bucket, ◌∙◌, ◌≡◌}
 use Rattle.bucket_table.specs.Map.ByKey.{Evicts, PreparesThen}
-use Rattle.bucket_table.specs.Map.Preparing.{HomeWantsMemory, IsPrepared, IsReady}
+use Rattle.bucket_table.specs.Map.Preparing.{HomeNeedsMemory, IsPrepared, IsReady}
 use Rattle.bucket_table.specs.Map.Putting.{EvictsAt, Goes, slots_left}
 use Rattle.bucket_table.specs.Map.MapState.{state_of}
 use Rattle.bucket_table.proofs.Map.LockedSteps.{with_own}
@@ -39,7 +39,7 @@ module _ {K V H : Type 0} (kind : ℕ) (old new : TableView K V H) where
       record { between = new; prepared = prepared; done = inl (prepared.kept.current_len ∙ none, refl, refl) }
 
   -- nor is anything evicted if memory was needed
-  pub evict_refused : (hash : ℕ) → IsPrepared kind hash old new → HomeWantsMemory hash old.arrays new.arrays
+  pub evict_refused : (hash : ℕ) → IsPrepared kind hash old new → HomeNeedsMemory hash old.arrays new.arrays
       → PreparesThen kind hash old (λ moved. EvictsAt {E = ℕ} hash moved (Err 0) new)
-  evict_refused hash prepared wants =
-      record { between = new; prepared = prepared; done = (wanting_unready hash old.arrays new.arrays wants, refl) }
+  evict_refused hash prepared matches =
+      record { between = new; prepared = prepared; done = (wanting_unready hash old.arrays new.arrays matches, refl) }

@@ -3,7 +3,7 @@ use Rattle.bucket_table.proofs.Words.{ArePlaced, AreSourcesKilled, ArraysView, C
 use Rattle.bucket_table.proofs.Words.{KeepsArrays, KeepsPairs, None, Ok, Old, OnErr, OnOk, Option, ResizesIf, Result, Side, Some, TableView}
 use Rattle.bucket_table.proofs.Words.{WorksUnits, ℕ, ap, arith, buckets_on, cases_lt, inl, inr, length, refl, subst, sym, ◌*◌, ◌<◌, ◌∙◌, ◌≡◌, ◌⊎◌}
 use Rattle.bucket_table.specs.Map.Finding.{Finds, FindsBucket, FindsNone, MakesReady, ReadiesOrGrows, ReadiesThenGrows}
-use Rattle.bucket_table.specs.Map.Preparing.{HomeWantsMemory, IsMissing, IsPrepared, IsReady}
+use Rattle.bucket_table.specs.Map.Preparing.{HomeNeedsMemory, IsMissing, IsPrepared, IsReady}
 use Rattle.bucket_table.specs.Resize.Growing.{Grows, WriterAsksGrowth}
 use Rattle.bucket_table.specs.Resize.Overfull.{GrowsOverfull}
 use Rattle.bucket_table.specs.declared.arrays.Missing.{Missing}
@@ -32,7 +32,7 @@ module _ {K V : Type 0} where
   -- it failed beside an old array, or for the first array
   pub none_found : (hash : ℕ) (old new : ArraysView K V) → (0 < length old.linked → KeepsArrays old new)
       → WorksUnits 1 (IsHome (length new.current) hash) old new
-      → (length old.linked ≡ 0 → (length old.current ≡ 0) × (new ≡ old)) → (0 < length new.current → HomeWantsMemory hash old new)
+      → (length old.linked ≡ 0 → (length old.current ≡ 0) × (new ≡ old)) → (0 < length new.current → HomeNeedsMemory hash old new)
       → FindsNone hash old new
   none_found hash old new beside units alone home = record {
     kept = elim (cases_lt 0 (length old.linked)) [
@@ -71,11 +71,11 @@ module _ {K V : Type 0} where
 
   -- a home is ready after its preparation, or memory was needed
   pub home_answered : {A : Type 0} (hash : ℕ) (old new : ArraysView K V) (result : Result A Missing) → OnOk result (IsReady new hash)
-      → IfErr result (λ missing. IsMissing missing old) → (result ≡ Err Memory → HomeWantsMemory hash old new)
-      → length new.current ≡ length old.current → 0 < length new.current → IsReady new hash ⊎ HomeWantsMemory hash old new
-  home_answered hash old new (Ok done) ready missing wants same stands = inl ready
-  home_answered hash old new (Err Nothing) ready missing wants same stands = absurd (omega (arith, missing, same, stands))
-  home_answered hash old new (Err Memory) ready missing wants same stands = inr (wants refl)
+      → IfErr result (λ missing. IsMissing missing old) → (result ≡ Err Memory → HomeNeedsMemory hash old new)
+      → length new.current ≡ length old.current → 0 < length new.current → IsReady new hash ⊎ HomeNeedsMemory hash old new
+  home_answered hash old new (Ok done) ready missing matches same stands = inl ready
+  home_answered hash old new (Err Nothing) ready missing matches same stands = absurd (omega (arith, missing, same, stands))
+  home_answered hash old new (Err Memory) ready missing matches same stands = inr (matches refl)
 
 -- what happens to the arrays happens to the table
 module _ {K V H : Type 0} (kind hash : ℕ) (hasher : H) (a new : ArraysView K V) where
@@ -83,7 +83,7 @@ module _ {K V H : Type 0} (kind hash : ℕ) (hasher : H) (a new : ArraysView K V
   over b = record { hasher = hasher; arrays = b }
 
   pub prepared : KeepsArrays a new → WorksUnits 1 (IsHome (length new.current) hash) a new → (length a.linked ≡ 0 → new ≡ a)
-      → (0 < length new.current → IsReady new hash ⊎ HomeWantsMemory hash a new) → IsPrepared kind hash (over a) (over new)
+      → (0 < length new.current → IsReady new hash ⊎ HomeNeedsMemory hash a new) → IsPrepared kind hash (over a) (over new)
   prepared kept units alone home = record {
     map = state_found kind hasher a new kept.keeps;
     kept = kept;

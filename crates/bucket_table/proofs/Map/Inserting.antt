@@ -1,12 +1,14 @@
 -- A pair inserted into a locked bucket if its key is absent, and what that makes of the table in which the bucket was found.
-use Rattle.bucket_table.proofs.Words.{ArraysView, Bool, BucketView, Err, IsEquivalence, IsHome, IsLocked, IsOneMap, IsPermutation-refl}
+use Rattle.bucket_table.proofs.Words.{ArraysView, Bool, BucketView, Err, IsEquivalence, IsHome, IsLocked, IsOneMap, IsPermutation-refl, List}
 use Rattle.bucket_table.proofs.Words.{KeepsPairs, MapState, Ok, OnErr, OnOk, Result, Side, TableView, ℕ, bucket_at, bucket_on, buckets_on}
-use Rattle.bucket_table.proofs.Words.{length, pairs_of, refl, slots_after_insertion, true, with_bucket, ◌%◌, ◌≡◌}
+use Rattle.bucket_table.proofs.Words.{empty_bucket, length, pairs_of, refl, set, set-get_or, slots_after_insertion, sym, true}
+use Rattle.bucket_table.proofs.Words.{with_bucket, ◌%◌, ◌∙◌, ◌≡◌}
 use Rattle.bucket_table.specs.Map.Finding.{FindsBucket, FindsThen}
 use Rattle.bucket_table.specs.declared.hash_table.ResizeRule.{ResizeRule}
-use Rattle.bucket_table.specs.declared.hash_table.NotInserted.{NotInserted}
-use Rattle.bucket_table.specs.declared.hash_table.NotInserted.TheVariants.{Memory, Present}
-use Rattle.bucket_table.specs.Map.ByKey.{AnswersInsertion, HandsBack, Inserts, InsertsAt}
+use Rattle.bucket_slots.specs.declared.not_inserted.NotInserted.{NotInserted}
+use Rattle.bucket_slots.specs.declared.not_inserted.NotInserted.TheVariants.{Memory, Present}
+use Rattle.bucket_slots.specs.Digested.{AnswersInsertion}
+use Rattle.bucket_table.specs.Map.ByKey.{Inserts, InsertsAt, InsertsIn, ReturnsPair}
 use Rattle.bucket_table.specs.Map.MapState.{state_of}
 use Rattle.bucket_table.specs.Map.Refusing.{IsRefused}
 use Rattle.bucket_table.proofs.Map.LookUps.{searched_absent, searched_found}
@@ -38,17 +40,28 @@ module _ {K V H : Type 0} {eq : K → K → Bool} (laws : IsEquivalence eq) (has
       rw same (unchanged laws hash kind side i one (changeable_locked a side i locked) _
       ((answer.0, answer.1, absent), record { pairs = IsPermutation-refl (pairs_of a); others = refl }))
 
+-- a bucket of an array into which a pair was inserted
+pub inserted_in : {K V : Type 0} (eq : K → K → Bool) (key : K) (value : V) (byte kind : ℕ) (keeps : ℕ → Bool)
+    (old new : List (BucketView K V)) (index : ℕ) (r : Result (Unit {0}) (NotInserted K V))
+    → AnswersInsertion eq key value byte kind keeps (bucket_at old index) r
+    → OnOk r (new ≡ set old index (slots_after_insertion kind keeps (bucket_at old index) (key, value) byte))
+    → OnErr r (new ≡ old)
+    → InsertsIn eq key value byte kind keeps (bucket_at old index) r (λ left. new ≡ set old index left)
+inserted_in eq key value byte kind keeps old new index (Ok done) answer put same = (_, answer, refl, _, put)
+inserted_in eq key value byte kind keeps old new index (Err why) answer put same =
+    (bucket_at old index, answer, _, refl, same ∙ sym (set-get_or old index empty_bucket))
+
 module _ {K V H : Type 0} where
   -- the same for a pair that is returned, if the map was the same before
   pub handed_back : (eq : K → K → Bool) (key : K) (value : V) (old between : MapState K V H) (why : NotInserted K V)
-      → KeepsPairs old between → HandsBack eq key value between.pairs why → HandsBack eq key value old.pairs why
+      → KeepsPairs old between → ReturnsPair eq key value between.pairs why → ReturnsPair eq key value old.pairs why
   handed_back eq key value old between (Present k v) keeps (same, handed, (pair, there)) =
       (same, handed, (pair, there_before (λ own. eq own key) old between pair keeps there))
   handed_back eq key value old between (Memory k v) keeps x = (x.0, x.1, absent_before (λ own. eq own key) old between keeps x.2)
 
   -- and nothing else changes if no bucket is found for it
   pub unfound : (eq : K → K → Bool) (key : K) (value : V) (old new : MapState K V H) (why : NotInserted K V) → KeepsPairs old new
-      → HandsBack eq key value new.pairs why → HandsBack eq key value old.pairs why × KeepsPairs old new
+      → ReturnsPair eq key value new.pairs why → ReturnsPair eq key value old.pairs why × KeepsPairs old new
   unfound eq key value old new why keeps x = (handed_back eq key value old new why keeps x, keeps)
 
 module _ {K V H A : Type 0} where

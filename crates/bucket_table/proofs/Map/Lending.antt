@@ -9,28 +9,28 @@ use Rattle.bucket_table.specs.Map.Preparing.{IsPrepared}
 use Rattle.bucket_table.proofs.Scripts.CallSteps.{then_changed, there_before}
 
 -- the pair in the slot is the one that the search found
-same_there : {K V : Type 0} (wants : K → Bool) (pairs : List (K × V)) (slot : Slot K V) (p q : K × V) → live_pair slot ≡ Some p
-    → IsThere wants pairs p → live_pair slot ≡ Some q → IsThere wants pairs q
-same_there {K} {V} wants pairs slot p q found there lent =
-    subst (λ (r : K × V). IsThere wants pairs r) (same_Some p q (sym found ∙ lent)) there
+same_there : {K V : Type 0} (matches : K → Bool) (pairs : List (K × V)) (slot : Slot K V) (p q : K × V) → live_pair slot ≡ Some p
+    → IsThere matches pairs p → live_pair slot ≡ Some q → IsThere matches pairs q
+same_there {K} {V} matches pairs slot p q found there lent =
+    subst (λ (r : K × V). IsThere matches pairs r) (same_Some p q (sym found ∙ lent)) there
 
-module _ {K V H : Type 0} (wants : K → Bool) (kind hash : ℕ) (old between : TableView K V H)
+module _ {K V H : Type 0} (matches : K → Bool) (kind hash : ℕ) (old between : TableView K V H)
     (prepared : IsPrepared kind hash old between)
-    (side : Side) (i : ℕ) (at : Place) (stands : StandsAt wants between.arrays side i at) (own : K) (before : V)
+    (side : Side) (i : ℕ) (at : Place) (stands : StandsAt matches between.arrays side i at) (own : K) (before : V)
     (lent : live_pair (slot_in (bucket_on between.arrays side i) at) ≡ Some (own, before)) where
-  there : IsThere wants (pairs_of between.arrays) (own, before)
-  there = same_there wants (pairs_of between.arrays) (slot_in (bucket_on between.arrays side i) at) stands.pair (own, before) stands.slot
+  there : IsThere matches (pairs_of between.arrays) (own, before)
+  there = same_there matches (pairs_of between.arrays) (slot_in (bucket_on between.arrays side i) at) stands.pair (own, before) stands.slot
       stands.there lent
 
   -- what is lent was in the map before the unit was worked
-  pub lent_there : IsThere wants (pairs_of old.arrays) (own, before)
-  lent_there = there_before wants (state_of kind old) (state_of kind between) (own, before) prepared.map there
+  pub lent_there : IsThere matches (pairs_of old.arrays) (own, before)
+  lent_there = there_before matches (state_of kind old) (state_of kind between) (own, before) prepared.map there
 
   -- and another value is written there, and the slot is touched if the call touches
   pub lent_writes : (touches : Bool) (value : V) (new : TableView K V H)
       → new ≡ with_bucket between side i (bucket_with_value (slots_touched touches (bucket_on between.arrays side i) at) at value)
       → ChangesValue (state_of kind between) (own, before) value (state_of kind new)
-      → WritesUnder touches wants kind hash old before value new
+      → WritesUnder touches matches kind hash old before value new
   lent_writes touches value new is wrote = record {
     map = (
       own,

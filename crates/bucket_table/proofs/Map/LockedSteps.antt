@@ -29,12 +29,12 @@ pub ok_not_err : {A E : Type 0} {x : A} {e : E} → ◌≡◌ {A = Result A E} (
 ok_not_err same = cc
 
 module _ {K V : Type 0} where
-  -- the bucket is where it was put
+  -- the bucket is where it was stored
   pub put_there : (a : ArraysView K V) (side : Side) (i : ℕ) (b : BucketView K V)
       → i < length (buckets_on a side) → bucket_at (buckets_on (arrays_with a side i b) side) i ≡ b
   put_there a side i b within = rw (buckets_on-arrays_with a side i b) (get_or-set_same (buckets_on a side) i b empty_bucket within)
 
-  -- and if that bucket asks for it, the arrays are shrunk
+  -- and if that bucket is empty, the arrays may shrink
   pub shrinks_after : (left : Option ℕ) (a : ArraysView K V) (side : Side) (i : ℕ) (b : BucketView K V) (new : ArraysView K V)
       → i < length (buckets_on a side)
       → ShrinksBy left (pairs_in (bucket_at (buckets_on (arrays_with a side i b) side) i) ≡ []) i (arrays_with a side i b) new

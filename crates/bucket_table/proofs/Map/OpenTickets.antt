@@ -6,8 +6,8 @@ use Rattle.bucket_table.specs.Map.Finding.{Finds, FindsThen}
 use Rattle.bucket_table.specs.Resize.Resizing.{Releases, Reserves, Resizes, TriesResize, with_minimum}
 use Rattle.bucket_table.specs.declared.hash_table.ResizeRule.{ResizeRule}
 use Rattle.bucket_table.specs.declared.arrays.Missing.{Missing}
-use Rattle.bucket_table.specs.declared.hash_table.NotInserted.{NotInserted}
-use Rattle.bucket_table.specs.declared.hash_table.NotInserted.TheVariants.{Memory, Present}
+use Rattle.bucket_slots.specs.declared.not_inserted.NotInserted.{NotInserted}
+use Rattle.bucket_slots.specs.declared.not_inserted.NotInserted.TheVariants.{Memory, Present}
 use Rattle.bucket_table.specs.Map.Putting.{EvictsAt}
 use Rattle.bucket_table.specs.Map.Counting.{CountsAndResizes}
 use Rattle.bucket_table.specs.Resize.Asking.{RemovesAndShrinks, ShrinksBy}
@@ -72,14 +72,14 @@ module _ {K V H : Type 0} where
   bag_then kind hash old new Then p after =
       bag_both old.arrays.tickets p.between.arrays.tickets new.arrays.tickets p.prepared.kept.keeps.open_tickets (after p.between p.done)
 
-  module _ (wants : K → Bool) where
+  module _ (matches : K → Bool) where
     changed_at : (change : BucketView K V → Place → BucketView K V) (found : Bool) (old new : TableView K V H)
-        → ChangesAt wants change found old new → KeepsOpenTickets old.arrays.tickets new.arrays.tickets
+        → ChangesAt matches change found old new → KeepsOpenTickets old.arrays.tickets new.arrays.tickets
     changed_at change true old new (side, i, at, stands, is) = bag_set old new side i _ is
     changed_at change false old new same = rw same (bag_same old.arrays.tickets)
 
     shrunk_at : (change : BucketView K V → Place → BucketView K V) (left : Option ℕ) (found : Bool) (old new : TableView K V H)
-        → ShrinksAt wants change left found old new → KeepsOpenTickets old.arrays.tickets new.arrays.tickets
+        → ShrinksAt matches change left found old new → KeepsOpenTickets old.arrays.tickets new.arrays.tickets
     shrunk_at change left true old new (side, i, at, stands, is) =
         bag_shrunk left old.arrays side i (change (bucket_on old.arrays side i) at) new.arrays is
     shrunk_at change left false old new same = rw same (bag_same old.arrays.tickets)
@@ -91,18 +91,18 @@ module _ {K V H : Type 0} where
   evicted_from hash old (Err e) new (unready, same) = rw same (bag_same old.arrays.tickets)
 
   module _ (kind hash : ℕ) (old new : TableView K V H) where
-    pub bag_changed : (wants : K → Bool) (change : BucketView K V → Place → BucketView K V) (found : Bool)
-        → PreparesThen kind hash old (λ between. ChangesAt wants change found between new)
+    pub bag_changed : (matches : K → Bool) (change : BucketView K V → Place → BucketView K V) (found : Bool)
+        → PreparesThen kind hash old (λ between. ChangesAt matches change found between new)
         → KeepsOpenTickets old.arrays.tickets new.arrays.tickets
-    bag_changed wants change found p =
-        bag_then kind hash old new _ p (λ between is. changed_at wants change found between new is)
+    bag_changed matches change found p =
+        bag_then kind hash old new _ p (λ between is. changed_at matches change found between new is)
 
     -- also if the arrays may then shrink
-    pub bag_taken : (wants : K → Bool) (change : BucketView K V → Place → BucketView K V) (left : Option ℕ) (found : Bool)
-        → PreparesThen kind hash old (λ between. ShrinksAt wants change left found between new)
+    pub bag_taken : (matches : K → Bool) (change : BucketView K V → Place → BucketView K V) (left : Option ℕ) (found : Bool)
+        → PreparesThen kind hash old (λ between. ShrinksAt matches change left found between new)
         → KeepsOpenTickets old.arrays.tickets new.arrays.tickets
-    bag_taken wants change left found p =
-        bag_then kind hash old new _ p (λ between is. shrunk_at wants change left found between new is)
+    bag_taken matches change left found p =
+        bag_then kind hash old new _ p (λ between is. shrunk_at matches change left found between new is)
 
     pub bag_evicted : {E : Type 0} (r : Result (Option (K × V)) E) → PreparesThen kind hash old (λ between. EvictsAt hash between r new)
         → KeepsOpenTickets old.arrays.tickets new.arrays.tickets

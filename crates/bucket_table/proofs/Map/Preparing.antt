@@ -1,7 +1,7 @@
 -- What moving the sources of a bucket leaves.
 use Rattle.bucket_table.proofs.Words.{AreSourcesKilled, ArraysView, Bool, IsHome, IsInRange, Meets, ℕ, arith, false≢true, length, sym, true}
 use Rattle.bucket_table.proofs.Words.{◌↔◌, ◌∙◌, ◌≡◌}
-use Rattle.bucket_table.specs.Map.Preparing.{HomeWantsMemory, IsReady}
+use Rattle.bucket_table.specs.Map.Preparing.{HomeNeedsMemory, IsReady}
 use Rattle.bucket_table.specs.Rehash.Units.{WorksRange}
 
 module _ {K V : Type 0} where
@@ -24,6 +24,6 @@ module _ {K V : Type 0} where
   }
 
   -- a home for which memory is needed isn't ready
-  pub wanting_unready : (hash : ℕ) (old new : ArraysView K V) → HomeWantsMemory hash old new → IsReady new hash → ⊥
-  wanting_unready hash old new (index, home, wants) ready =
-      false≢true (sym wants.alive ∙ ready.killed index home wants.index wants.within wants.one)
+  pub wanting_unready : (hash : ℕ) (old new : ArraysView K V) → HomeNeedsMemory hash old new → IsReady new hash → ⊥
+  wanting_unready hash old new (index, home, matches) ready =
+      false≢true (sym matches.alive ∙ ready.killed index home matches.index matches.within matches.one)

@@ -1,4 +1,4 @@
--- What a put does to the slots of a cache's bucket: it never fails there, and it leaves the chain.
+-- What a put does to the slots of a cache's bucket: it never fails there, and the chain stays.
 use Rattle.bucket_table.proofs.Words.{Bool, BucketView, CACHE, Contains, Contains-append_left, IfNone, IfSome, None, Option, Place, Some, ℕ}
 use Rattle.bucket_table.proofs.Words.{ap, false, first_place, flattened, free, get_or-set_same, is_free, length-set, live_from_pair}
 use Rattle.bucket_table.proofs.Words.{live_pair, refl, slot_at, slots_after_insertion, slots_evicted, slots_touched, subst, true, ◌↔◌, ◌∙◌}

@@ -1,4 +1,4 @@
--- What a table is after the pair in a live slot was touched, made a tombstone or taken out.
+-- What a table is after the pair in a live slot was touched, made a tombstone or removed.
 use Rattle.bucket_table.proofs.Words.{ArePlaced, ArraysView, Bool, BucketView, ChangesValue, IsEquivalence, IsOneMap, Keeps, KeepsPairs}
 use Rattle.bucket_table.proofs.Words.{MapState, Place, Side, Some, TakesPair, ℕ, arrays_with, bucket_on, bucket_with_value, buckets_on}
 use Rattle.bucket_table.proofs.Words.{length, live_pair, slot_in, slots_marked, slots_touched, slots_without, ◌<◌, ◌≡◌}

@@ -1,4 +1,4 @@
--- A pair is taken out of a table, after its bucket was found.
+-- A pair is removed from a table, after its bucket was found.
 use Rattle.bucket_table.proofs.Words.{All-permutation, Bool, Contains-permutation, IsAbsent, IsPermutation-sym, IsPermutation-trans}
 use Rattle.bucket_table.proofs.Words.{IsThere, KeepsPairs, List, MapState, Slot, Some, TakesPair, ap, false, live_pair, same_Some, subst}
 use Rattle.bucket_table.proofs.Words.{sym, true, ◌∙◌, ◌∷◌, ◌≡◌}
@@ -11,25 +11,25 @@ module _ {K V H : Type 0} where
     others = takes.others ∙ ap (λ (m : MapState K V H). record m { pairs = d.pairs }) keeps.others;
   }
 
-module _ {K V : Type 0} (wants : K → Bool) where
+module _ {K V : Type 0} (matches : K → Bool) where
   -- the pair that a search found is the one that was taken
-  pub same_taken : (pairs : List (K × V)) (slot : Slot K V) (p q : K × V) → live_pair slot ≡ Some p → IsThere wants pairs p
-      → live_pair slot ≡ Some q → wants q.0 ≡ true
-  same_taken pairs slot p q found there taken = subst (λ (r : K × V). wants r.0 ≡ true) (same_Some p q (sym found ∙ taken)) there.1
+  pub same_taken : (pairs : List (K × V)) (slot : Slot K V) (p q : K × V) → live_pair slot ≡ Some p → IsThere matches pairs p
+      → live_pair slot ≡ Some q → matches q.0 ≡ true
+  same_taken pairs slot p q found there taken = subst (λ (r : K × V). matches r.0 ≡ true) (same_Some p q (sym found ∙ taken)) there.1
 
   module _ {H : Type 0} (a b : MapState K V H) where
     -- if no key matches now, none did in another order
-    pub absent_before : KeepsPairs a b → IsAbsent wants b.pairs → IsAbsent wants a.pairs
-    absent_before keeps none = All-permutation (λ (p : K × V). wants p.0 ≡ false) b.pairs a.pairs
+    pub absent_before : KeepsPairs a b → IsAbsent matches b.pairs → IsAbsent matches a.pairs
+    absent_before keeps none = All-permutation (λ (p : K × V). matches p.0 ≡ false) b.pairs a.pairs
         (IsPermutation-sym a.pairs b.pairs keeps.pairs) none
 
-    -- and the pair that a search found was there before, in another order
-    pub there_before : (p : K × V) → KeepsPairs a b → IsThere wants b.pairs p → IsThere wants a.pairs p
+    -- and the pair that a search found was present before, in another order
+    pub there_before : (p : K × V) → KeepsPairs a b → IsThere matches b.pairs p → IsThere matches a.pairs p
     there_before p keeps (there, is) =
         (Contains-permutation b.pairs a.pairs p (IsPermutation-sym a.pairs b.pairs keeps.pairs) there, is)
 
     -- and it is the one that a slot shows
-    pub shown_before : (slot : Slot K V) (p q : K × V) → KeepsPairs a b → live_pair slot ≡ Some p → IsThere wants b.pairs p
-        → live_pair slot ≡ Some q → IsThere wants a.pairs q
+    pub shown_before : (slot : Slot K V) (p q : K × V) → KeepsPairs a b → live_pair slot ≡ Some p → IsThere matches b.pairs p
+        → live_pair slot ≡ Some q → IsThere matches a.pairs q
     shown_before slot p q keeps found there shown =
-        there_before q keeps (subst (λ (r : K × V). IsThere wants b.pairs r) (same_Some p q (sym found ∙ shown)) there)
+        there_before q keeps (subst (λ (r : K × V). IsThere matches b.pairs r) (same_Some p q (sym found ∙ shown)) there)

@@ -250,7 +250,7 @@ module _ {K V : Type 0} where
         recency = carries_recency laws long landed_here order_here listed_here;
       }
 
--- an order that isn't empty comes from a cache, whose list is kept
+-- an order that isn't empty is that of a cache, whose list is kept
 pub is_cache : {K V : Type 0} (kind : ℕ) (s : BucketView K V) (order : List ℕ) → IsBucketOf kind s → order ≡ s.listed → 0 < length order
     → kind ≡ CACHE
 is_cache kind s order laws is some = elim (cases_eq kind CACHE) [

@@ -131,7 +131,7 @@ module _ {K V : Type 0} where
     new_here : (place_for_next (bucket_at c j)).block ≡ 0 → IsListable c at_now → ⊥
     new_here own is = false≢true (ap is_live (sym (was_free (bucket_at c j) p b own)) ∙ is.live)
 
-    -- p comes from slot `from` of s
+    -- p was in slot `from` of s
     module _ {hash : K → ℕ} {s0 s : BucketView K V} {c0 : List (BucketView K V)} {landings : List (Option Landing)} (from : Place)
         (landing : AreLanding hash s0 c0 s c landings) (here : live_pair (slot_in s from) ≡ Some p)
         (room : first_place is_free (bucket_at c j) ≡ None → ⊥) where

@@ -1,4 +1,4 @@
--- A walk that vacates each slot it comes to.
+-- A walk that vacates each slot it visits.
 use Rattle.bucket_table.proofs.Words.{BucketView, IsBucketOf, Place, Some, [], ap, live_from_pair, live_pair, pairs_ahead, pairs_in}
 use Rattle.bucket_table.proofs.Words.{slot_in, slots_vacated, sym, ℕ, ◌∙◌, ◌∷◌, ◌≡◌}
 use Rattle.bucket_slots.proofs.RoomAfter.{pairs_ahead-slots_vacated}

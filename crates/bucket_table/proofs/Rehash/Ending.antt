@@ -2,7 +2,7 @@
 use Rattle.bucket_table.proofs.Words.{All, ArePlaced, ArraysView, Bool, BucketView, Ends, EndsRehash, Err, HasNoNewMark, IsPermutation}
 use Rattle.bucket_table.proofs.Words.{IsTrue, List, LosesNoUnit, None, Ok, Option, Result, Some, Starts, TicketState, ℕ, [], ap, arith}
 use Rattle.bucket_table.proofs.Words.{bucket_at, entries_of, false, first_tickets, killed_flags, length, length_permutation, listed_pairs}
-use Rattle.bucket_table.proofs.Words.{marks_among, marks_of, no_new-refl, pairs_in, refl, subst, suc, sym, true, zero, ◌*◌, ◌/◌, ◌↔◌, ◌∷◌}
+use Rattle.bucket_table.proofs.Words.{marks_among, tombstones_of, no_new-refl, pairs_in, refl, subst, suc, sym, true, zero, ◌*◌, ◌/◌, ◌↔◌, ◌∷◌}
 use Rattle.bucket_table.proofs.Words.{◌≡◌}
 use Rattle.bucket_slots.proofs.MarksAfter.{no_new-append, no_new-none}
 use Rattle.bucket_table.specs.Rehash.Carrying.{CarriesOrder, chained_pairs}
@@ -150,13 +150,13 @@ module _ {K V : Type 0} (old new : ArraysView K V) (ticket : ℕ) (success : Boo
 
   -- for the tombstones
   pub marks_ended : (answer : Result Bool TicketError) → EndsRehash old ticket success answer new
-      → HasNoNewMark (marks_of old) (marks_of new)
+      → HasNoNewMark (tombstones_of old) (tombstones_of new)
   marks_ended (Ok true) ends =
       let front = marks_among old.current in
       let rest = marks_among old.linked in
       rw ends.2 (no_new-append front rest front [] (no_new-refl front) (no_new-none rest))
-  marks_ended (Ok false) ends = rw ends.1 (no_new-refl (marks_of old))
-  marks_ended (Err error) ends = rw ends.1 (no_new-refl (marks_of old))
+  marks_ended (Ok false) ends = rw ends.1 (no_new-refl (tombstones_of old))
+  marks_ended (Err error) ends = rw ends.1 (no_new-refl (tombstones_of old))
 
   -- and for the current array
   pub others_ended : (answer : Result Bool TicketError) → EndsRehash old ticket success answer new

@@ -1,25 +1,25 @@
 -- A unit of a rehash that nobody else works.
 use Rattle.bucket_table.proofs.Words.{ArraysView, Bool, EndsRehash, Err, HandsOut, IsInRange, List, LosesNoUnit, None, Ok, Result, Some}
-use Rattle.bucket_table.proofs.Words.{Starts, TicketState, WantsMemory, WorksUnit, ℕ, [], ap, arith, cases_lt, false, inl, inr}
+use Rattle.bucket_table.proofs.Words.{Starts, TicketState, NeedsMemory, WorksUnit, ℕ, [], ap, arith, cases_lt, false, inl, inr}
 use Rattle.bucket_table.proofs.Words.{killed_flags, length, length_permutation, nil_from_length, refl, sym, true, true≢false, ◌*◌, ◌+◌, ◌/◌}
 use Rattle.bucket_table.proofs.Words.{◌∙◌, ◌≡◌}
 use Rattle.bucket_table.specs.Rehash.Covered.{IsCovered}
 use Rattle.bucket_table.specs.declared.tickets.TicketError.{TicketError}
 use Rattle.bucket_table.specs.Rehash.Finishing.{Finishes, units_left}
 use Rattle.bucket_table.proofs.Rehash.Covering.{position_after}
-use Rattle.bucket_table.proofs.Rehash.Wanting.{unit_wants}
+use Rattle.bucket_table.proofs.Rehash.NeedingMemory.{unit_needs}
 use Rattle.bucket_table.proofs.Rehash.UnitWork.{closed, ends_now, none_changed, not_refused}
 
 module _ {K V : Type 0} (old worked last : ArraysView K V) (started : TicketState) (ticket : ℕ) (success : Bool)
     (h : HandsOut old.tickets ticket started)
     (w : WorksUnit (ticket / 2048) success (record old { tickets = started }) worked) (long : old.tickets.len ≡ length old.linked)
     (covered : IsCovered (killed_flags old.linked) old.tickets)
-    (wants : success ≡ false
-    → WantsMemory (IsInRange (64 * (ticket / 2048)) (64 * (ticket / 2048) + 64)) (record old { tickets = started }) worked) where
+    (matches : success ≡ false
+    → NeedsMemory (IsInRange (64 * (ticket / 2048)) (64 * (ticket / 2048) + 64)) (record old { tickets = started }) worked) where
   -- what the end of a unit leaves
   finished : (answer : Result Bool TicketError) → old.tickets.open_units ≡ [] → EndsRehash worked ticket success answer last
       → (last.tickets.open_units ≡ []) × (success ≡ true → units_left last + 1 ≡ units_left old)
-      × (success ≡ false → (last.tickets.position ≡ old.tickets.position) × WantsMemory (λ i. Unit {0}) old last)
+      × (success ≡ false → (last.tickets.position ≡ old.tickets.position) × NeedsMemory (λ i. Unit {0}) old last)
   finished (Err error) none ends =
       absurd (not_refused old.tickets started ticket h success _ error last.tickets w.1 (ends_now old worked last started ticket success h w
       (Err error) last.tickets ends.0))
@@ -47,8 +47,8 @@ module _ {K V : Type 0} (old worked last : ArraysView K V) (started : TicketStat
         λ failed.
             let back = closes.position_is ∙ ap (λ (s : Bool). position_after s started.position old.tickets.position) failed in (
               omega (arith, h.position_is, back),
-              unit_wants old worked last started (ticket / 2048) (omega (arith, h.ticket_is)) none covered w.0
-                  (ap (λ (a : ArraysView K V). a.linked) ends.1) (wants failed),
+              unit_needs old worked last started (ticket / 2048) (omega (arith, h.ticket_is)) none covered w.0
+                  (ap (λ (a : ArraysView K V). a.linked) ends.1) (matches failed),
             ),
       )
 

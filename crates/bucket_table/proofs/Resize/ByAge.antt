@@ -57,7 +57,7 @@ module _ {K V : Type 0} where
       let rest = slots_stay old new slot slots others later in
       λ i. others first (λ same. false≢true (sym isnt ∙ eq-eqb slot first (sym same))) i ∷ rest i
 
-  -- the pair of the last of some slots comes first, and taking it leaves the others
+  -- the pair of the last of some slots is first, and taking it leaves the others
   takes_at : (old new : BucketView K V) (slots : List ℕ) (i d : ℕ) → IsOnce slots → i < length slots
       → ((other : ℕ) → other ≢ get_or slots i d → slot_at new.own other ≡ slot_at old.own other)
       → own_backwards old (take (i + 1) slots) ≡ own_left old (get_or slots i d ∷ []) ++ own_backwards new (take i slots)
@@ -78,7 +78,7 @@ module _ {K V : Type 0} where
       let once : IsOnce slots = rw is (once_each (listed ++ range_with_len 0 32)) in
       ap (λ (n : ℕ). own_backwards old (take n slots)) last ∙ takes_at old new slots (left - 1) d once (omega arith) others
 
-  -- at first all slots are left, in order of use
+  -- at first all slots are left, in LRU order
   pub all_at_first : (bucket : BucketView K V) (slots : List ℕ) → length bucket.own ≡ 32 → slots ≡ slots_by_use 32 bucket.listed
       → length slots ≤ 32 → own_by_age bucket ≡ own_backwards bucket (take 32 slots)
   all_at_first bucket slots long is few =

@@ -1,4 +1,4 @@
--- The pairs of a bucket's chain, after its own slots: a walk that takes them out leaves the own slots.
+-- The pairs of a bucket's chain, after its own slots: a walk that removes them leaves the own slots.
 use Rattle.bucket_table.proofs.Words.{Bool, BucketView, List, MovesToNext, None, Option, Place, Slot, Some, ℕ, ap, arith, block_at, cond}
 use Rattle.bucket_table.proofs.Words.{drop, drop_all, false, false≢true, flattened, free, is_live, length, live_pair, live_pairs, nat_lt}
 use Rattle.bucket_table.proofs.Words.{pairs_ahead, refl, row_at, rows_with, slot_in, slots_without, suc, sym, true, zero, ◌++◌, ◌+◌, ◌<◌}

@@ -13,7 +13,7 @@ moved_over xs ys zs =
     rw (← append_assoc xs ys zs, ← append_assoc ys xs zs)
     (IsPermutation-append_left zs (xs ++ ys) (ys ++ xs) (IsPermutation-append_comm xs ys))
 
--- the pairs put from two lists, and those that were evicted and those that are there
+-- the pairs put from two lists, those that were evicted, and those that are present
 module _ {A : Type 0} (xs ys all : List A) where
   later_first : IsPermutation ((xs ++ ys) ++ all) (ys ++ (xs ++ all))
   later_first = rw (append_assoc xs ys all) (moved_over xs ys all)

@@ -9,8 +9,8 @@ use Rattle.bucket_table.specs.Map.Putting.{Goes, Puts, PutsAt, slots_left, slots
 use Rattle.bucket_table.specs.Resize.Growing.{Grows, WriterAsksGrowth}
 use Rattle.bucket_table.specs.Resize.Renewing.{Awaits, Pours}
 use Rattle.bucket_table.specs.declared.hash_table.ResizeRule.TheVariants.{Sampled}
-use Rattle.bucket_table.specs.declared.hash_table.NotInserted.{NotInserted}
-use Rattle.bucket_table.specs.declared.hash_table.NotInserted.TheVariants.{Memory, Present}
+use Rattle.bucket_slots.specs.declared.not_inserted.NotInserted.{NotInserted}
+use Rattle.bucket_slots.specs.declared.not_inserted.NotInserted.TheVariants.{Memory, Present}
 use Rattle.std.proofs.lemmas.List.Elements.{All-contains}
 use Rattle.std.proofs.lemmas.Map.Keys.{IsDistinct-head}
 use Rattle.bucket_table.specs.Map.MapState.{state_of}

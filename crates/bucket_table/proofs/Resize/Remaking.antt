@@ -1,6 +1,6 @@
 -- All pairs in one array of another length: what the moves on the way leave.
 use Rattle.bucket_table.proofs.Words.{AreArrays, ArePlaced, ArraysView, Bool, Err, IsEquivalence, IsLengthFor, KeepsArrays}
-use Rattle.bucket_table.proofs.Words.{KeepsPairs, List, Ok, OnOk, Result, TicketState, WantsMemory, ℕ, [], ap, arith, first_tickets, inl}
+use Rattle.bucket_table.proofs.Words.{KeepsPairs, List, Ok, OnOk, Result, TicketState, NeedsMemory, ℕ, [], ap, arith, first_tickets, inl}
 use Rattle.bucket_table.proofs.Words.{inr, length, refl, subst, sym, ◌/◌, ◌∙◌, ◌≡◌}
 use Rattle.std.proofs.Common.{max}
 use Rattle.std.specs.Prelude.{IsErr, OnErr}
@@ -63,10 +63,10 @@ module _ {K V : Type 0} where
 
   -- an old bucket needed memory in the rehash that was under way
   pub begun_wants : {A E : Type 0} (old begun second : ArraysView K V) → begun ≡ unopened old → (answer : Result A E) (error : E)
-      → OnErr answer (WantsMemory (λ i. Unit {0}) begun second) → answer ≡ Err error → WantsMemory (λ i. Unit {0}) (unopened old) second
-  begun_wants {A} {E} old begun second is answer error wants was =
-      subst (λ (a : ArraysView K V). WantsMemory (λ i. Unit {0}) a second) is
-      (subst (λ (r : Result A E). OnErr r (WantsMemory (λ i. Unit {0}) begun second)) was wants)
+      → OnErr answer (NeedsMemory (λ i. Unit {0}) begun second) → answer ≡ Err error → NeedsMemory (λ i. Unit {0}) (unopened old) second
+  begun_wants {A} {E} old begun second is answer error matches was =
+      subst (λ (a : ArraysView K V). NeedsMemory (λ i. Unit {0}) a second) is
+      (subst (λ (r : Result A E). OnErr r (NeedsMemory (λ i. Unit {0}) begun second)) was matches)
 
   pub begun_keeps : (old begun second : ArraysView K V) → begun ≡ unopened old → KeepsArrays begun second
       → KeepsArrays (unopened old) second
@@ -95,7 +95,7 @@ module _ {K V E : Type 0} (capacity : ℕ) (old second : ArraysView K V) (first 
   -- the rehash that was under way has ended, or failed
   pub stands : (answer : Result (Unit {0}) E) → second.tickets.open_units ≡ [] → OnOk answer (IsSettledAt capacity second)
       → (IsSettledAt capacity old → (answer ≡ Ok tt) × (second ≡ old))
-      → OnErr answer (IsLengthFor capacity (length old.current) → WantsMemory (λ i. Unit {0}) (unopened old) second)
+      → OnErr answer (IsLengthFor capacity (length old.current) → NeedsMemory (λ i. Unit {0}) (unopened old) second)
       → RehashesTo capacity old answer second
   stands answer none settled there wanted = record {
     kept = first.keeps;

@@ -13,7 +13,7 @@ module _ {K V : Type 0} where
   resizes old new (Ok moved) tries = (Ok moved, tries)
   resizes old new (Err refused) tries = (Err tt, tries)
 
-  -- the resize was tried exactly if it was asked for
+  -- the resize was tried exactly if one was due
   pub resizes_asked : {E Asked : Type 0} (old new : ArraysView K V) (answer : Result Bool E) → Asked → TriesResize old answer new
       → ResizesIf Asked old new
   resizes_asked old new answer asks tries = inl (asks, resizes old new answer tries)
@@ -42,7 +42,7 @@ module _ {K V : Type 0} where
   map_raised eq laws hash old new least was kept placed =
       map_kept eq laws hash (with_minimum old least) new (map_with eq hash old least was) kept placed
 
--- what is asked for is granted if there is room for it
+-- the requested number is the result if there is room for it
 granted : (room wanted answer : ℕ) → (room < wanted → answer ≡ 0) → (wanted ≤ room → answer ≡ wanted)
     → answer ≡ (if nat_le wanted room then wanted else 0)
 granted room wanted answer much fits = elim (cases_lt room wanted) [

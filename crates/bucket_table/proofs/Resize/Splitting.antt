@@ -3,7 +3,7 @@ use Rattle.bucket_table.proofs.Words.{ArraysView, BucketView, Err, IsHome, IsLen
 use Rattle.bucket_table.proofs.Words.{bucket_at, length, pairs_in, refl, subst, sym, ℕ, ◌/◌, ◌∙◌, ◌≡◌, ◌≤◌}
 use Rattle.bucket_slots.specs.Homes.{Meets}
 use Rattle.bucket_slots.proofs.CallerLemmas.{homes_meet, one_source, scales}
-use Rattle.bucket_table.specs.Map.Preparing.{HomeWantsMemory, IsMissing}
+use Rattle.bucket_table.specs.Map.Preparing.{HomeNeedsMemory, IsMissing}
 use Rattle.bucket_table.specs.Resize.Overfull.{SplitsHome}
 use Rattle.bucket_table.specs.declared.arrays.Missing.{Missing}
 use Rattle.bucket_table.specs.declared.arrays.Missing.TheVariants.{Memory, Nothing}
@@ -23,36 +23,36 @@ module _ {K V : Type 0} (hash : ℕ) (old doubled : ArraysView K V) (is : Splits
 
   -- so allocation can't fail for the home: it has one source, with as many pairs as own slots
   pub split_fetches : (new : ArraysView K V) → IsLength (length doubled.linked) → IsLength (length doubled.current)
-      → KeepsArrays doubled new → WorksUnits 1 (IsHome (length new.current) hash) doubled new → HomeWantsMemory hash doubled new → ⊥
-  split_fetches new linked current kept units (index, home, wants) =
+      → KeepsArrays doubled new → WorksUnits 1 (IsHome (length new.current) hash) doubled new → HomeNeedsMemory hash doubled new → ⊥
+  split_fetches new linked current kept units (index, home, matches) =
       let from = length doubled.linked in
       let to = length doubled.current in
-      let i = wants.index in
+      let i = matches.index in
       let source = is.may.index in
-      let len : length new.linked ≡ from = (units.stands (omega (arith, wants.within))).len in
+      let len : length new.linked ≡ from = (units.stands (omega (arith, matches.within))).len in
       let longer = split_longer linked in
       let at : IsHome to hash index = subst (λ (n : ℕ). IsHome n hash index) kept.current_len home in
       let own : IsHome from hash source = subst (λ (bs : List (BucketView K V)). IsHome (length bs) hash source) (sym split_old)
       is.may.home in
       let one = one_source from to (to / from) index (scales from to linked.power current.power longer (omega (arith, current.at_most)))
       at.within in
-      let meets : Meets from i to index = rw (len, kept.current_len) at wants.one in
-      let here : i ≡ one.0 = (one.2 i (omega (arith, wants.within, len))).0 meets in
+      let meets : Meets from i to index = rw (len, kept.current_len) at matches.one in
+      let here : i ≡ one.0 = (one.2 i (omega (arith, matches.within, len))).0 meets in
       let there : source ≡ one.0 = (one.2 source own.within).0 (homes_meet from to source index hash own at) in
       let few : length (pairs_in (bucket_at doubled.linked i)) ≤ 32 =
       subst (λ (k : ℕ). length (pairs_in (bucket_at doubled.linked k)) ≤ 32) (there ∙ sym here)
       (rw split_old (omega (arith, is.may.full))) in
-      wants.needed (record {
+      matches.needed (record {
         no_shorter = longer;
         few = λ j low high.
             let same : i ≡ j = omega (arith, low, high) in
             subst (λ (k : ℕ). length (pairs_in (bucket_at doubled.linked k)) ≤ 32) same few;
       })
 
-  -- so it is there
+  -- so a writer's bucket is found
   pub never_missing : (new : ArraysView K V) → IsLength (length doubled.linked) → IsLength (length doubled.current)
       → KeepsArrays doubled new → WorksUnits 1 (IsHome (length new.current) hash) doubled new → (missing : Missing)
       → IsMissing missing doubled
-      → (◌≡◌ {A = Result (Unit {0}) Missing} (Err missing) (Err Memory) → HomeWantsMemory hash doubled new) → ⊥
+      → (◌≡◌ {A = Result (Unit {0}) Missing} (Err missing) (Err Memory) → HomeNeedsMemory hash doubled new) → ⊥
   never_missing new linked current kept units Nothing none wanted = omega (arith, none, current.at_least)
   never_missing new linked current kept units Memory is wanted = split_fetches new linked current kept units (wanted refl)

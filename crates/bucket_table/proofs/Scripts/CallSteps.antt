@@ -37,9 +37,9 @@ module _ {K V H : Type 0} where
     after = record { pairs = changes.after.pairs; others = others_after a b d keeps changes.after.others };
   }
 
-  pub there_before : (wants : K → Bool) (a b : MapState K V H) (p : K × V) → KeepsPairs a b
-      → IsThere wants b.pairs p → IsThere wants a.pairs p
-  there_before wants a b p keeps there = (
+  pub there_before : (matches : K → Bool) (a b : MapState K V H) (p : K × V) → KeepsPairs a b
+      → IsThere matches b.pairs p → IsThere matches a.pairs p
+  there_before matches a b p keeps there = (
     Contains-permutation b.pairs a.pairs p (IsPermutation-sym a.pairs b.pairs keeps.pairs) there.0,
     there.1,
   )
@@ -47,7 +47,7 @@ module _ {K V H : Type 0} where
   pub counted_before : (n : ℕ) (a b : MapState K V H) → KeepsPairs a b → n ≡ counted_to b.pairs → n ≡ counted_to a.pairs
   counted_before n a b keeps counted = counted ∙ ap (λ m. min m (2 ^ 64 - 1)) (length_permutation a.pairs b.pairs keeps.pairs)
 
-  -- if no pair is left, none was there in another order
+  -- if no pair is left, there was none in another order
   pub none_before : (a b : MapState K V H) → KeepsPairs a b → b.pairs ≡ [] → a.pairs ≡ []
   none_before a b keeps none = none_of a.pairs (sym (length_permutation a.pairs b.pairs keeps.pairs)
       ∙ ap (λ (ps : List (K × V)). length ps) none)

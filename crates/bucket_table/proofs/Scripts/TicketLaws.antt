@@ -1,4 +1,4 @@
--- An old array that was dropped doesn't come back by calls of the rehash.
+-- After an old array was dropped, no call of the rehash makes one.
 use Rattle.bucket_table.proofs.Words.{All, Bool, Err, List, None, Ok, Option, Result, Some, Starts, ℕ, [], arith, false, length_permutation}
 use Rattle.bucket_table.proofs.Words.{refl, suc, true, ◌∷◌, ◌≡◌}
 use Rattle.bucket_table.specs.Scripts.Runs.{Run}

@@ -1,6 +1,6 @@
 -- What is kept, one call after another.
 use Rattle.bucket_table.proofs.Words.{ArraysView, BucketView, IsPermutation-refl, IsPermutation-trans, Keeps, KeepsArrays, KeepsOpenTickets}
-use Rattle.bucket_table.proofs.Words.{List, TicketState, entries_of, marks_of, no_new-refl, no_new-trans, refl, ◌∙◌}
+use Rattle.bucket_table.proofs.Words.{List, TicketState, entries_of, tombstones_of, no_new-refl, no_new-trans, refl, ◌∙◌}
 use Rattle.bucket_table.specs.Views.Keeping.{StayKilled}
 use Rattle.bucket_table.proofs.Moves.CarriedOrder.{order_both, order_same}
 
@@ -8,7 +8,7 @@ module _ {K V : Type 0} where
   pub keeps_same : (old : ArraysView K V) → Keeps old old
   keeps_same old = record {
     pairs = IsPermutation-refl (entries_of old);
-    marks = no_new-refl (marks_of old);
+    marks = no_new-refl (tombstones_of old);
     minimum = refl;
     maximum = refl;
     open_tickets = λ unit. refl;

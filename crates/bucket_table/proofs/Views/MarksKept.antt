@@ -1,7 +1,7 @@
 -- Tombstones of arrays: none is new when a bucket changes, when a bucket's pairs move, and when an array is made or dropped.
 use Rattle.bucket_table.proofs.Words.{ArraysView, BucketView, Current, HasNoNewMark, KeepsEntries, List, MarksBy, Old, Side, ℕ, [], arith}
 use Rattle.bucket_table.proofs.Words.{arrays_with, bucket_at, bucket_on, by-no_new, empty_bucket, get_or, length, marks_among, marks_in}
-use Rattle.bucket_table.proofs.Words.{marks_of, no_new-refl, no_new-trans, refl, set, suc, ◌++◌, ◌∷◌, ◌≡◌}
+use Rattle.bucket_table.proofs.Words.{tombstones_of, no_new-refl, no_new-trans, refl, set, suc, ◌++◌, ◌∷◌, ◌≡◌}
 use Rattle.bucket_slots.proofs.MarksAfter.{by-append, by-set, no_new-append, no_new-at, no_new-both, no_new-front, no_new-rest, no_new-set}
 
 -- lists whose elements have the same parts have the same parts in all
@@ -55,7 +55,7 @@ module _ {K V : Type 0} (epoch : ℕ) where
   -- another bucket, whose tombstones are its own or have an epoch
   pub by-bucket : (arrays : ArraysView K V) (side : Side) (index : ℕ) (left : BucketView K V)
       → MarksBy epoch (marks_in (bucket_on arrays side index)) (marks_in left)
-      → MarksBy epoch (marks_of arrays) (marks_of (arrays_with arrays side index left))
+      → MarksBy epoch (tombstones_of arrays) (tombstones_of (arrays_with arrays side index left))
   by-bucket arrays Current index left here =
       let rest = marks_among arrays.linked in
       by-append epoch (marks_among arrays.current) rest _ rest (by-set_at arrays.current index left here)

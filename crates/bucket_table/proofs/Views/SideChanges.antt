@@ -38,7 +38,7 @@ module _ {K V : Type 0} where
     vacant = λ e. absurd cc;
   }
 
-  -- bucket i of one side is now b: the entries `out` were removed, and the entries `came` added
+  -- bucket i of one side is now b: the entries `out` were removed, and the entries `came` were added
   pub record Exchanges (a : ArraysView K V) (side : Side) (i : ℕ) (came out : List ((K × V) × ℕ)) (b : BucketView K V) : Type 0 where
     pub within : i < length (buckets_on a side)
     pub moved : IsPermutation (came ++ entries_in (bucket_at (buckets_on a side) i)) (out ++ entries_in b)
@@ -172,7 +172,7 @@ module _ {K V : Type 0} where
       → ArePlaced hash (arrays_with a side i b)
   placed_change hash a side i b law locked homes same = placed_after hash a side i b law (changeable_locked a side i locked) homes same
 
-  -- the entries that came in and those that were there have their home there, so those that are there now do
+  -- the added entries and the earlier ones have their home there, so the present ones do
   pub homes_moved : (hash : K → ℕ) (len i : ℕ) (came out : List ((K × V) × ℕ))
       (b c : BucketView K V) → IsPermutation (came ++ entries_in b) (out ++ entries_in c)
       → All (IsEntryHome hash len i) (entries_in b) → All (IsEntryHome hash len i) came → All (IsEntryHome hash len i) (entries_in c)

@@ -1,4 +1,4 @@
--- What a step of an iterator over pairs in order of use leaves.
+-- What a step of an iterator over pairs in LRU order leaves.
 use Rattle.bucket_table.proofs.Words.{BucketView, List, Place, ap, arith, flattened, length, live_pair, live_pairs, map, pairs_ahead}
 use Rattle.bucket_table.proofs.Words.{slot_at, sym, ℕ, ◌++◌, ◌∙◌, ◌≡◌}
 use Rattle.std.proofs.lemmas.List.{drop_all}

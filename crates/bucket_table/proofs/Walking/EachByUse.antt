@@ -1,4 +1,4 @@
--- The pairs of a cache in order of use are its pairs in another order.
+-- The pairs of a cache in LRU order are its pairs in another order.
 use Rattle.bucket_table.proofs.Words.{ArraysView, BucketView, IsPermutation, IsPermutation-append_left, IsPermutation-cons}
 use Rattle.bucket_table.proofs.Words.{IsPermutation-map, IsPermutation-refl, IsPermutation-trans, List, None, Slot, [], ap, arith}
 use Rattle.bucket_table.proofs.Words.{cases_Bool, cases_eq, cases_lt, eq-eqb, false, false≢true, flattened, free, get_or, inl, inr}
@@ -58,7 +58,7 @@ in_use len slot listed below =
     once_lists (listed ++ range_with_len 0 len) slot ∙ list_any-append _ listed (range_with_len 0 len)
     ∙ or_right (is_listed listed slot) (is_listed (range_with_len 0 len) slot) (in_range len slot below)
 
--- a slot that is listed may come first
+-- a listed slot may be moved to the front
 
 touched_again : (order : List ℕ) (slot : ℕ) → order_without (slot ∷ order_without order slot) slot ≡ order_without order slot
 touched_again order slot =
@@ -102,7 +102,7 @@ module _ {K V : Type 0} where
     pairs_at-permutation : (slots others : List ℕ) → IsPermutation slots others → IsPermutation (pairs_at slots) (pairs_at others)
     pairs_at-permutation slots others moved = IsPermutation-filter_map live_pair _ _ (IsPermutation-map (slot_at own) slots others moved)
 
-    -- a slot that isn't in the order of use is past the end
+    -- a slot that isn't in the LRU order is past the end
     past_end : (listed : List ℕ) (slot : ℕ) → is_listed (slots_by_use (length own) listed) slot ≡ false
         → live_pair (slot_at own slot) ≡ None
     past_end listed slot absent = elim (cases_lt slot (length own)) [
@@ -134,7 +134,7 @@ module _ {K V : Type 0} where
   buckets_by_use [] = IsPermutation-refl []
   buckets_by_use (bucket ∷ buckets) = IsPermutation-append _ _ _ _ (bucket_by_use bucket) (buckets_by_use buckets)
 
-  -- the pairs in order of use are all pairs, each once
+  -- the pairs in LRU order are all pairs, each once
   pub each_by_use : (arrays : ArraysView K V) → IsPermutation (pairs_of arrays) (arrays_by_use arrays)
   each_by_use arrays =
       rw (pairs_are arrays) (IsPermutation-append _ _ _ _ (buckets_by_use arrays.current) (buckets_by_use arrays.linked))

@@ -32,7 +32,7 @@ module _ {K V : Type 0} where
   picked_by {later = later} {pair = pair} frees (inr (is, gone, out)) = (is, gone, sym (same_Some pair later (out frees)))
 
 module _ {S K V : Type 0} (step : S → Bor K → MutBor V → Bool → MutBor V → S → Type 0) (kind : ℕ) where
-  -- the function didn't pick the pairs that are no longer left, and they are there as it left them
+  -- the function didn't pick the pairs that are no longer left, and they are as it left them
   pub record IsExtracting (first : S) (old : ExtractView K V) (state : S) (now : ExtractView K V) : Type 0 where
     pub kept : List (K × V)
     pub asked : (picked : Option (K × V)) (last : S) (more rest : List (K × V))

@@ -1,4 +1,4 @@
--- What is left of buckets after live pairs are changed or taken out one by one.
+-- What is left of buckets after live pairs are changed or removed one by one.
 use Rattle.bucket_table.proofs.Words.{All, All-from_recursion, ArraysView, Bool, BucketView, IsDistinct, IsDistinct-IsPermutation}
 use Rattle.bucket_table.proofs.Words.{IsEntryHome, IsEquivalence, IsHome, IsOneMap, IsPermutation, IsPermutation-append_left}
 use Rattle.bucket_table.proofs.Words.{IsPermutation-append_right, IsPermutation-map, IsPermutation-refl, IsPermutation-trans, List, MarksBy}
@@ -129,7 +129,7 @@ module _ {K V : Type 0} (kind epoch : ℕ) where
     by-trans epoch (marks_in s) (marks_in t) (marks_in u) first.1 second.1,
   )
 
-  -- a pair is taken out, or becomes a tombstone
+  -- a pair is removed, or becomes a tombstone
   pub taken_out : (index : Bool) (s : BucketView K V) (at : Place) (p : K × V) → live_pair (slot_in s at) ≡ Some p
       → ((if index then slots_marked s at epoch else slots_without s at).killed ≡ s.killed)
       × ((byte : ℕ) × IsPermutation (entries_in s) ((p, byte) ∷ entries_in (if index then slots_marked s at epoch else slots_without s at)))
@@ -147,7 +147,7 @@ module _ {K V : Type 0} (kind epoch : ℕ) where
       let out = taken_out index s at p here in
       (keys_less s _ p out.0 out.1, marks_taken index s at p here)
 
-  -- so it is after pairs are changed or taken out one by one
+  -- so it is after pairs are changed or removed one by one
   pub gone_changed : (changes : List (Place × Option V)) (s t : BucketView K V) → ChangesPairs kind epoch changes s t → Gone s t
   gone_changed [] s t same = rw same (keys_same s, by-no_new epoch (marks_in s) (marks_in s) (no_new-refl (marks_in s)))
   gone_changed ((at, Some value) ∷ changes) s t (alive, rest) =

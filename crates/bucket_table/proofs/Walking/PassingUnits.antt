@@ -2,7 +2,7 @@
 use Rattle.bucket_table.proofs.Words.{AreSourcesKilled, ArraysView, Err, IsInInterval, IsInRange, IsLength, KeepsArrays, Ok, Result, Side}
 use Rattle.bucket_table.proofs.Words.{WorksUnits, ap, arith, bound_of, buckets_on, cases_lt, inl, inr, interval_width, length, refl, subst}
 use Rattle.bucket_table.proofs.Words.{sym, ℕ, ◌+◌, ◌-◌, ◌<◌, ◌^◌, ◌∙◌, ◌≡◌, ◌≤◌}
-use Rattle.bucket_table.specs.Rehash.Units.{WantsMemory}
+use Rattle.bucket_table.specs.Rehash.Units.{NeedsMemory}
 use Rattle.bucket_table.specs.Views.ArraysView.{IsSource}
 use Rattle.bucket_table.specs.Walking.Cursors.{AreKilledFor, Passes, ShrinksThenPasses}
 use Rattle.bucket_table.specs.declared.arrays.Missing.{Missing}
@@ -11,7 +11,7 @@ use Rattle.bucket_table.proofs.Walking.Bounds.{all_hashes, wide}
 use Rattle.bucket_table.proofs.Views.Keeping.{kept_both, kept_none}
 use Rattle.bucket_table.proofs.Rehash.StayingKilled.{sources_still}
 use Rattle.bucket_table.proofs.Rehash.UnitRuns.{stands_still, units_alone, units_both}
-use Rattle.bucket_table.proofs.Rehash.Wanting.{wanted_before}
+use Rattle.bucket_table.proofs.Rehash.NeedingMemory.{needed_before}
 use Rattle.std.specs.Prelude.{IsErrAnd}
 use Rattle.std.specs.Result.{result_map_both}
 
@@ -77,9 +77,9 @@ module _ {K V : Type 0} where
         }
 
     pub passes_refused : (len bound : ℕ) → len ≡ length before.current → index < len
-        → WantsMemory (IsSource now index) before now → (0 < length old.current → IsInInterval (length old.current) start bound)
+        → NeedsMemory (IsSource now index) before now → (0 < length old.current → IsInInterval (length old.current) start bound)
         → Passes (λ (i : ℕ). i) bound old (Err Memory) now
-    passes_refused len bound is below wants begins =
+    passes_refused len bound is below matches begins =
         let long = w.kept.current_len in
         let order = w.order in
         let at : start + (index - start) ≡ index = omega (arith, order) in
@@ -93,9 +93,9 @@ module _ {K V : Type 0} where
           units = subst (λ (n : ℕ). WorksUnits (index - start + 1) (IsInRange start n) old now) (sym past) units_now;
           sources = subst (λ (n : ℕ). AreKilledFor now start n) (sym at) sources_now;
           alone = still_alone;
-          wanted = λ _. subst (λ (n : ℕ). WantsMemory (IsSource now n) old now) (sym at)
-              (wanted_before (IsSource now index) (index - start) old before now w.kept.current_len w.units
-              (λ on. (unit.stands on).len) wants);
+          wanted = λ _. subst (λ (n : ℕ). NeedsMemory (IsSource now n) old now) (sym at)
+              (needed_before (IsSource now index) (index - start) old before now w.kept.current_len w.units
+              (λ on. (unit.stands on).len) matches);
         }
 
   -- an array that exists has hashes for each bucket

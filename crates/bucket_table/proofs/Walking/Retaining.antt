@@ -1,4 +1,4 @@
--- A pointer goes through a bucket, and the pairs for which a test returns false are taken out.
+-- A pointer moves through a bucket, and the pairs for which a test returns false are removed.
 use Rattle.bucket_table.proofs.Words.{AllByRecursion, Bool, BucketView, IsPermutation, IsPermutation-append_right, IsPermutation-map}
 use Rattle.bucket_table.proofs.Words.{IsPermutation-refl, IsPermutation-trans, List, MovesToNext, Place, [], ap, arith, cond, entries_in}
 use Rattle.bucket_table.proofs.Words.{false, false≢true, filter, inl, inr, is_live, length, length-append, length-map, length_permutation}

@@ -1,8 +1,8 @@
 -- A closure is called with each pair of a table, bucket after bucket.
 use Rattle.bucket_table.proofs.Words.{ArraysView, Bool, BucketView, IsEquivalence, IsOneMap, List, MarksBy, [], ap, append-nil, arith}
-use Rattle.bucket_table.proofs.Words.{bucket_at, by-no_new, cases_lt, empty_bucket, inl, inr, length, length-append, marks_in, marks_of}
+use Rattle.bucket_table.proofs.Words.{bucket_at, by-no_new, cases_lt, empty_bucket, inl, inr, length, length-append, marks_in, tombstones_of}
 use Rattle.bucket_table.proofs.Words.{min, no_new-refl, pairs_in, pairs_of, refl, set, subst, sym, take, ℕ, ◌++◌, ◌+◌, ◌-◌, ◌<◌, ◌^◌, ◌∙◌}
-use Rattle.bucket_table.proofs.Words.{◌∷◌, ◌≡◌, ◌≤◌}
+use Rattle.bucket_table.proofs.Words.{TableView, suc, zero, ◌∷◌, ◌≡◌, ◌≤◌}
 use Rattle.std.specs.Borrow.{Bor, MutBor}
 use Rattle.std.proofs.Common.{drop, drop-drop, drop-set-lt, get_or-drop}
 use Rattle.std.proofs.lemmas.List.{get_or-append-add, get_or_append_left, get_or_past, take_all, take_more, take_more_set}
@@ -13,11 +13,17 @@ use Rattle.bucket_table.specs.Map.LookingUp.{pairs_in_all}
 use Rattle.bucket_table.specs.Walking.Extracting.{KeepsShape}
 use Rattle.bucket_table.specs.Walking.Retains.{AreLeftOf, LosesKeys, RetainsEach, RetainsIn, gone_len}
 use Rattle.bucket_table.specs.Walking.Row.{row_of, row_with}
+use Rattle.bucket_table.specs.Views.Settings.{KeepsSettings}
 use Rattle.bucket_table.proofs.Views.SideChanges.{changeable_filled}
 use Rattle.bucket_table.proofs.Walking.Leaving.{all_left_at, all_left_both, all_left_same, gone_changed, left_same, one_map_losing_on}
 use Rattle.bucket_table.proofs.Walking.Row.{all_joined, marks_in_row, pairs_in_row, row_of-row_with, row_with-same, shape_both, shape_with}
 use Rattle.bucket_table.proofs.Walking.Row.{stands}
 use Rattle.bucket_table.proofs.Walking.RetainingEach.{asked_both, asked_fewer}
+
+-- if two lists together are empty, each of them is
+pub none_joined : {A : Type 0} (xs ys : List A) → xs ++ ys ≡ [] → (xs ≡ []) × (ys ≡ [])
+none_joined [] ys none = (refl, none)
+none_joined (x ∷ xs) ys none = absurd cc
 
 module _ {K V : Type 0} where
   -- a bucket with a pair may lose keys
@@ -38,6 +44,12 @@ module _ {K V : Type 0} where
   marks_among-more : (xs : List (BucketView K V)) (b : BucketView K V) → marks_among (xs ++ b ∷ []) ≡ marks_among xs ++ marks_in b
   marks_among-more xs b =
       flat_map-append (λ (c : BucketView K V). marks_in c) xs (b ∷ []) ∙ ap (λ l. marks_among xs ++ l) (append-nil (marks_in b))
+
+  -- no pair is in a bucket if there is none in all
+  none_at : (bs : List (BucketView K V)) (index : ℕ) → pairs_in_all bs ≡ [] → pairs_in (bucket_at bs index) ≡ []
+  none_at [] index none = refl
+  none_at (b ∷ bs) zero none = (none_joined (pairs_in b) (pairs_in_all bs) none).0
+  none_at (b ∷ bs) (suc index) none = none_at bs index (none_joined (pairs_in b) (pairs_in_all bs) none).1
 
 -- a bucket of the first of two lists, or of the second
 pub left_ahead : {K V : Type 0} (kind epoch : ℕ) (xs ys us vs : List (BucketView K V)) → length us ≡ length xs
@@ -146,7 +158,7 @@ module _ {S K V : Type 0} (step : S → Bor K → MutBor V → Bool → MutBor V
   pub record IsRetained (first : S) (old new : ArraysView K V) (count : ℕ) (last : S) : Type 0 where
     pub asked : RetainsEach step first (pairs_of old) (pairs_of new) last
     pub counted : count ≡ gone_len (pairs_of old) (pairs_of new)
-    pub marks : MarksBy epoch (marks_of old) (marks_of new)
+    pub marks : MarksBy epoch (tombstones_of old) (tombstones_of new)
     pub shape : KeepsShape old new
     pub current : AreLeftOf kind epoch old.current new.current
     pub linked : AreLeftOf kind epoch old.linked new.linked
@@ -162,9 +174,34 @@ module _ {S K V : Type 0} (step : S → Bor K → MutBor V → Bool → MutBor V
         asked = subst (λ pairs. RetainsEach step first pairs (pairs_of new) last) pairs_were
             (subst (λ pairs. RetainsEach step first (pairs_in_all (take index (row_of old))) pairs last) pairs_are amid.asked);
         counted = amid.counted ∙ (λ i. gone_len (pairs_were i) (pairs_are i));
-        marks = subst (λ marks. MarksBy epoch marks (marks_of new)) (ap marks_among were ∙ marks_in_row old)
+        marks = subst (λ marks. MarksBy epoch marks (tombstones_of new)) (ap marks_among were ∙ marks_in_row old)
             (subst (MarksBy epoch (marks_among (take index (row_of old)))) (ap marks_among are ∙ marks_in_row new) amid.marks);
         shape = amid.shape;
         current = left_ahead kind epoch old.current old.linked new.current new.linked amid.shape.current_len amid.left;
         linked = left_behind kind epoch old.current old.linked new.current new.linked amid.shape.current_len amid.left;
       }
+
+  -- if no pair is left, the rest of the row had none
+  passes_all : {first last : S} {old new : ArraysView K V} {count : ℕ} (left index : ℕ) → length (row_of new) ≡ index + left
+      → pairs_in_all (row_of new) ≡ [] → IsThrough first old last new index count
+      → IsThrough first old last new (length (row_of new)) count
+  passes_all {first} {last} {old} {new} {count} zero index len none amid =
+      let here : index ≡ length (row_of new) = omega (arith, len) in
+      subst (λ (n : ℕ). IsThrough first old last new n count) here amid
+  passes_all {new = new} (suc left) index len none amid =
+      passes_all left (index + 1) (omega (arith, len)) none (passes (omega (arith, len)) (none_at (row_of new) index none) amid)
+
+  pub stops : {first last : S} {old new : ArraysView K V} {index count : ℕ} → IsThrough first old last new index count
+      → index < length (row_of new) → pairs_of new ≡ [] → IsRetained first old new count last
+  stops {new = new} {index = index} amid within none =
+      ends (passes_all (length (row_of new) - index) index (omega (arith, within)) (pairs_in_row new ∙ none) amid) (omega arith)
+
+-- the settings stay with the tickets
+pub settings_kept : {K V H : Type 0} {old new : TableView K V H} → new.hasher ≡ old.hasher → KeepsShape old.arrays new.arrays
+    → KeepsSettings old new
+settings_kept hasher shape = record {
+  hasher = hasher;
+  minimum = shape.minimum;
+  maximum = shape.maximum;
+  bag = λ unit. rw shape.tickets refl;
+}

@@ -2,7 +2,7 @@
 use Rattle.bucket_table.proofs.Words.{AreArrays, ArraysView, BucketView, Current, List, MovesToNext, Old, Option, Place, Side, Slot, Some}
 use Rattle.bucket_table.proofs.Words.{[], ap, append_assoc, arith, arrays_with, bucket_at, bucket_on, buckets_on, cases_lt, empty_bucket}
 use Rattle.bucket_table.proofs.Words.{entries_among, entries_in, entries_of, flattened, get_or, get_or-set_same, inl, inr, length}
-use Rattle.bucket_table.proofs.Words.{length-append, length-set, live_pair, live_pairs, marks_among, marks_in, marks_of, nil_from_length}
+use Rattle.bucket_table.proofs.Words.{length-append, length-set, live_pair, live_pairs, marks_among, marks_in, tombstones_of, nil_from_length}
 use Rattle.bucket_table.proofs.Words.{null_place, pairs_ahead, pairs_in, pairs_of, refl, set, slot_in, subst, suc, sym, take, zero, ℕ, ◌++◌}
 use Rattle.bucket_table.proofs.Words.{◌+◌, ◌-◌, ◌<◌, ◌∙◌, ◌∷◌, ◌≡◌, ◌≤◌}
 use Rattle.std.proofs.Common.{drop}
@@ -127,7 +127,7 @@ module _ {K V : Type 0} where
   pub entries_in_row : (a : ArraysView K V) → entries_among (row_of a) ≡ entries_of a
   entries_in_row a = flat_map-append (λ (b : BucketView K V). entries_in b) a.current a.linked
 
-  pub marks_in_row : (a : ArraysView K V) → marks_among (row_of a) ≡ marks_of a
+  pub marks_in_row : (a : ArraysView K V) → marks_among (row_of a) ≡ tombstones_of a
   marks_in_row a = flat_map-append (λ (b : BucketView K V). marks_in b) a.current a.linked
 
   -- what is after a slot of some rows is at their end
@@ -274,7 +274,7 @@ module _ {K V : Type 0} where
       ] in
       nil_from_length (row_of a) (omega (arith, past, linked, length-append a.current a.linked))
 
-  -- the pair at a place is taken out
+  -- the pair at a place is removed
   pub takes_first : (a : ArraysView K V) (index : ℕ) (at : Place) (b : BucketView K V) (to_index : ℕ) (from to : Place)
       (pair : K × V) (left : BucketView K V) → MovesOn (row_of a) index at b to_index from
       → live_pair (slot_in (bucket_at (row_of a) to_index) from) ≡ Some pair

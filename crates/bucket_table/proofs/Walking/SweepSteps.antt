@@ -2,7 +2,7 @@
 use Rattle.bucket_table.proofs.Words.{ArePlaced, ArraysView, Bool, BucketView, Current, Err, HasNoNewMark, IsLength, IsLocked}
 use Rattle.bucket_table.proofs.Words.{IsPermutation, KeepsOpenTickets, KeepsPairs, MarksBy, Ok, Place, Result, TableView, [], ap, arith}
 use Rattle.bucket_table.proofs.Words.{arrays_with, bound_of, bucket_on, by-no_new, by-trans, counted, inl, inr, length, length-set}
-use Rattle.bucket_table.proofs.Words.{marks_of, min, pairs_ahead, pairs_in, pairs_of, refl, subst, sym, ℕ, ◌++◌, ◌+◌, ◌-◌, ◌<◌, ◌^◌, ◌∙◌}
+use Rattle.bucket_table.proofs.Words.{tombstones_of, min, pairs_ahead, pairs_in, pairs_of, refl, subst, sym, ℕ, ◌++◌, ◌+◌, ◌-◌, ◌<◌, ◌^◌, ◌∙◌}
 use Rattle.bucket_table.proofs.Words.{◌∷◌, ◌≡◌, ◌≢◌, ◌≤◌, ◌⊎◌}
 use Rattle.bucket_table.specs.Walking.Cursors.{IsFoundFrom, Leaves, ReachesPast, SetsOut, ShrinksThenPasses}
 use Rattle.bucket_table.specs.Map.MapState.{state_of}
@@ -39,7 +39,7 @@ module _ {K V : Type 0} (IsTest : (K × V → Bool) → Type 0) (hash : K → �
       × (pairs_in (bucket_on now Current index) ≢ [])
   SweepsOn old now count (Err missing) = IsOver old now count missing
 
-  -- a sweep that has come to a bound, or begins, continues where a cursor does
+  -- a sweep that has reached a bound, or begins, continues where a cursor does
   sweep_goes : (old now next : ArraysView K V) (count high : ℕ) (found : Result ℕ Missing) (at : Place)
       → IsSweeping IsTest hash (pairs_of old) (pairs_of now) high high count
       → IsPermutation (pairs_of now) (pairs_of next) → IsFoundFrom hash high found next at
@@ -88,7 +88,7 @@ module _ {K V H : Type 0} (IsTest : (K × V → Bool) → Type 0) (hash : H → 
     pub on : SweepsOn IsTest (hash old.hasher) old.arrays now.arrays count place
     pub course : Sweeps IsTest kind epoch old.arrays (record { place = place; arrays = now.arrays })
     pub alone : length old.arrays.linked ≡ 0 → count ≡ 0 → now.arrays ≡ old.arrays
-    pub marks : MarksBy epoch (marks_of old.arrays) (marks_of now.arrays)
+    pub marks : MarksBy epoch (tombstones_of old.arrays) (tombstones_of now.arrays)
 
   pub stands_first : {next : TableView K V H} {place : Result ℕ Missing} {at : Place}
       → SetsOut kind hash old place at next → SweepStands next 0 place
@@ -104,7 +104,7 @@ module _ {K V H : Type 0} (IsTest : (K × V → Bool) → Type 0) (hash : H → 
       run = refl;
     };
     alone = λ none zero_count. out.passes.alone none;
-    marks = by-no_new epoch (marks_of old.arrays) (marks_of next.arrays) out.marks;
+    marks = by-no_new epoch (tombstones_of old.arrays) (tombstones_of next.arrays) out.marks;
   }
 
   -- a bucket was swept, and the cursor has left it
@@ -114,7 +114,7 @@ module _ {K V H : Type 0} (IsTest : (K × V → Bool) → Type 0) (hash : H → 
       → more ≡ min (count + taken) (2 ^ 64 - 1)
       → KeepsPairs (state_of kind visited) (state_of kind next) → KeepsOpenTickets visited.arrays.tickets next.arrays.tickets
       → Leaves (hash visited.hasher) (bound_of (length visited.arrays.current) (index + 1)) place next.arrays at
-      → HasNoNewMark (marks_of visited.arrays) (marks_of next.arrays)
+      → HasNoNewMark (tombstones_of visited.arrays) (tombstones_of next.arrays)
       → ShrinksThenPasses (λ to. to) Current index visited.arrays place next.arrays → SweepStands next more place
   stands_next {now} {visited} {next} {count} {taken} {more} {index} {here} {place} at stands is law same retained counted kept bag
       leaves none_new departs =
@@ -150,10 +150,10 @@ module _ {K V H : Type 0} (IsTest : (K × V → Bool) → Type 0) (hash : H → 
             let beside : length now.arrays.linked ≡ 0 = ap (λ (a : ArraysView K V). length a.linked) before ∙ none in
             course_alone IsTest now.arrays visited.arrays next.arrays index taken place on.2 retained departs beside
             (omega (arith, counted, no_more)) ∙ before;
-        marks = by-trans epoch (marks_of old.arrays) (marks_of visited.arrays) (marks_of next.arrays)
-            (by-trans epoch (marks_of old.arrays) (marks_of now.arrays) (marks_of visited.arrays) stands.marks
+        marks = by-trans epoch (tombstones_of old.arrays) (tombstones_of visited.arrays) (tombstones_of next.arrays)
+            (by-trans epoch (tombstones_of old.arrays) (tombstones_of now.arrays) (tombstones_of visited.arrays) stands.marks
             (rw retained.new_is (by-bucket epoch now.arrays Current index retained.left retained.marks)))
-            (by-no_new epoch (marks_of visited.arrays) (marks_of next.arrays) none_new);
+            (by-no_new epoch (tombstones_of visited.arrays) (tombstones_of next.arrays) none_new);
       }
 
   -- then fewer hashes are left

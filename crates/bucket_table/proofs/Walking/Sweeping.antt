@@ -125,7 +125,7 @@ module _ {K V : Type 0} (IsTest : (K × V → Bool) → Type 0) (hash : K → �
         counted = s.counted ∙ ap (λ (n : ℕ). min n (2 ^ 64 - 1)) (length_permutation _ _ same);
       }
 
-  -- and a sweep that fails has come to a bound
+  -- and a sweep that fails has reached a bound
   pub sweep_stops : (old now next : List (K × V)) (high count : ℕ) → IsSweeping old now high high count → IsPermutation now next
       → (test : K × V → Bool) → IsTest test → IsSweptBelow hash high test old next
   sweep_stops old now next high count s moved test means =

@@ -59,7 +59,7 @@ module _ {K V H : Type 0} (kind : ℕ) (hash : H → K → ℕ) (side : Side) (i
       | inr some ↦ absurd (not_held some)
     ]
 
-    -- and no pair that there was has a hash from there on
+    -- and no earlier pair has a hash from there on
     pub none_before : missing ≡ Nothing
         → HasNoneFrom (hash old.hasher) (bound_of (length (buckets_on old.arrays side)) (index + 1)) (pairs_of old.arrays)
     none_before nothing = elim (some_or_none (pairs_ahead (bucket_on old.arrays side index) from)) [
@@ -68,7 +68,7 @@ module _ {K V H : Type 0} (kind : ℕ) (hash : H → K → ℕ) (side : Side) (i
       | inr some ↦ absurd (not_held some)
     ]
 
-    -- it doesn't fail if there is no old array and no shrinking is asked for
+    -- it doesn't fail if there is no old array and no shrink is due
     pub refused_beside : length old.arrays.linked ≡ 0
         → (pairs_in (bucket_on old.arrays side index) ≡ [] → AsksShrinking old.arrays index → ⊥) → missing ≡ Memory → ⊥
     refused_beside alone quiet memory = elim (some_or_none (pairs_ahead (bucket_on old.arrays side index) from)) [

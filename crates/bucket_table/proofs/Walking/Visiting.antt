@@ -4,7 +4,7 @@ use Rattle.bucket_table.proofs.Words.{IsEntryHome, IsEquivalence, IsLocked, IsOn
 use Rattle.bucket_table.proofs.Words.{TableView, WorksUnits, ap, arith, arrays_with, bucket_at, bucket_on, cases_Bool, cases_lt, entries_in}
 use Rattle.bucket_table.proofs.Words.{false, has_home_in, inl, inr, length, length-set, map-entries_in, recursion_from_All, refl, subst}
 use Rattle.bucket_table.proofs.Words.{sym, true, ℕ, ◌+◌, ◌<◌, ◌∙◌, ◌≡◌, ◌≤◌}
-use Rattle.bucket_table.specs.Rehash.Units.{WantsMemory}
+use Rattle.bucket_table.specs.Rehash.Units.{NeedsMemory}
 use Rattle.bucket_table.specs.Views.ArraysView.{IsSource}
 use Rattle.bucket_table.specs.Resize.Asking.{ResizesIf}
 use Rattle.bucket_table.specs.Walking.Cursors.{AreKilledFor}
@@ -17,7 +17,7 @@ use Rattle.bucket_table.proofs.Views.Keeping.{bag_both, bag_same}
 use Rattle.bucket_table.proofs.Views.SettingsKept.{settings_both}
 use Rattle.bucket_table.proofs.Views.SideChanges.{changeable_locked, locked_current}
 use Rattle.bucket_table.proofs.Rehash.StayingKilled.{sources_still}
-use Rattle.bucket_table.proofs.Rehash.Wanting.{wanted_before}
+use Rattle.bucket_table.proofs.Rehash.NeedingMemory.{needed_before}
 use Rattle.bucket_table.proofs.Walking.Leaving.{homes_kept, one_map_losing_on}
 use Rattle.bucket_table.proofs.Rehash.UnitRuns.{units_alone}
 use Rattle.bucket_table.proofs.Walking.WalkSteps.{IsVisitOf, WalksOn, begins, each_waits, goes_on, walk_units, walk_waits}
@@ -141,9 +141,9 @@ module _ {S K V : Type 0} (step : S → BucketView K V → Bool → Bool → Buc
       {old table ready : ArraysView K V} {from index : ℕ} {flag more : Bool} → BeginsAt (length old.current) expected start from
       → WalkStands first now old from index flag more table → KeepsArrays table ready
       → WorksUnits 1 (λ home. home ≡ index) table ready → (length table.linked ≡ 0 → ready ≡ table)
-      → WantsMemory (IsSource ready index) table ready → more ≡ true
+      → NeedsMemory (IsSource ready index) table ready → more ≡ true
       → WalksBy {A = A} step hash expected start first old (Err error) now ready
-  walk_refused {old = old} {table = table} {ready = ready} {from = from} {index = index} {flag = flag} at stands kept unit waits wants
+  walk_refused {old = old} {table = table} {ready = ready} {from = from} {index = index} {flag = flag} at stands kept unit waits matches
       going =
       let part = walk_waits hash stands.walks.part kept in
       let reached = stands.walks.reached in
@@ -160,9 +160,9 @@ module _ {S K V : Type 0} (step : S → BucketView K V → Bool → Bool → Buc
         units = walk_units step hash stands.walks unit;
         visited = each_waits old table ready from stands.walks.visits stands.walks.visited (kept, waits);
         within = λ some. let fits = stands.within (omega (arith, reached, some)) in omega (arith, reached, fits);
-        wanted = subst (λ (index : ℕ). WantsMemory (IsSource ready index) old ready) reached
-            (wanted_before (IsSource ready index) (length stands.walks.visits) old table ready stands.walks.part.len stands.walks.units
-            (λ on. (unit.stands on).len) wants);
+        wanted = subst (λ (index : ℕ). NeedsMemory (IsSource ready index) old ready) reached
+            (needed_before (IsSource ready index) (length stands.walks.visits) old table ready stands.walks.part.len stands.walks.units
+            (λ on. (unit.stands on).len) matches);
         whole = tt;
         going = stands.walks.going going;
         ends = refl;
@@ -200,7 +200,7 @@ module _ {S K V : Type 0} (step : S → BucketView K V → Bool → Bool → Buc
 
 module _ {S K V H : Type 0} (step : S → BucketView K V → Bool → Bool → BucketView K V → Bool → S
     → Type 0) (hash : K → ℕ) where
-  -- what a walk keeps, whatever comes after it
+  -- what a walk keeps, whatever follows it
   pub settings_walked : {first now : S} {old table new : TableView K V H} {from index : ℕ} {flag more : Bool}
       → WalkStands step hash first now old.arrays from index flag more table.arrays → table.hasher ≡ old.hasher
       → KeepsSettings table new → KeepsSettings old new

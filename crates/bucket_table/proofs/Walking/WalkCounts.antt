@@ -16,7 +16,7 @@ use Rattle.bucket_table.proofs.Map.MapKept.{others_than_pairs, pairs_kept}
 use Rattle.bucket_table.proofs.Walking.Retaining.{retains_none}
 
 module _ {K V : Type 0} where
-  -- the walk came to the array's end, or was stopped
+  -- the walk reached the array's end, or was stopped
   abbrev pub IsWhole : ArraysView K V → ℕ → List (Visited (BucketView K V)) → Type 0
   IsWhole old start visits = (length old.current ≤ start + length visits) ⊎ HasStopped visits
 

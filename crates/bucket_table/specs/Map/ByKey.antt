@@ -1,67 +1,67 @@
 -- What a call by key does to a table, stated of its map. A reply that isn't stated is impossible.
 use Rattle.std.specs.Prelude.{OnErr, OnOk, ℕ, ◌≡◌, ◌<◌, Bool, true, false, List, Option, Some, None, Result, Ok, Err, length}
 use Rattle.std.specs.Borrow.{Bor, MutBor}
-use Rattle.bucket_slots.specs.BucketView.{BucketView, Place, bucket_with_value, first_place, slot_in}
-use Rattle.bucket_slots.specs.Clearing.{slots_after_insertion, slots_for_insertion}
-use Rattle.bucket_slots.specs.Searching.{place_wanted}
-use Rattle.bucket_slots.specs.Slots.{is_free, live_pair}
+use Rattle.bucket_slots.specs.BucketView.{BucketView, Place, bucket_with_value, slot_in}
+use Rattle.bucket_slots.specs.Clearing.{slots_after_insertion}
+use Rattle.bucket_slots.specs.Digested.{AnswersInsertion, HasNoSlot}
+use Rattle.bucket_slots.specs.Slots.{live_pair}
 use Rattle.bucket_table.specs.Views.ArraysView.{ArraysView, TableView, pairs_of}
 use Rattle.bucket_table.specs.Resize.Asking.{RemovesAndShrinks}
 use Rattle.bucket_table.specs.Map.LookingUp.{IsAbsent, IsThere}
 use Rattle.bucket_table.specs.Map.MapState.{MapState, KeepsPairs, AddsPair, TakesPair, ChangesValue}
 use Rattle.bucket_table.specs.Map.Preparing.{IsPrepared}
 use Rattle.bucket_table.specs.Views.Sides.{bucket_on, buckets_on, with_bucket}
-use Rattle.bucket_table.specs.declared.hash_table.NotInserted.{NotInserted}
-use Rattle.bucket_table.specs.declared.hash_table.NotInserted.TheVariants.{Present, Memory}
+use Rattle.bucket_slots.specs.declared.not_inserted.NotInserted.{NotInserted}
+use Rattle.bucket_slots.specs.declared.not_inserted.NotInserted.TheVariants.{Present, Memory}
 use Rattle.bucket_table.specs.declared.arrays.side.Side.{Side}
 
 -- a live slot of a bucket of one side has a pair with a matching key
-pub record StandsAt {K V : Type 0} (wants : K → Bool) (arrays : ArraysView K V) (side : Side) (index : ℕ) (at : Place) : Type 0 where
+pub record StandsAt {K V : Type 0} (matches : K → Bool) (arrays : ArraysView K V) (side : Side) (index : ℕ) (at : Place) : Type 0 where
   pub pair : K × V
   pub within : index < length (buckets_on arrays side)
   pub slot : live_pair (slot_in (bucket_on arrays side index) at) ≡ Some pair
-  pub there : IsThere wants (pairs_of arrays) pair
+  pub there : IsThere matches (pairs_of arrays) pair
 
 -- why a pair that wasn't inserted is returned: an equal key is in the map, or allocation failed, and then none is
-abbrev pub HandsBack : {K V : Type 0} → (K → K → Bool) → K → V → List (K × V) → NotInserted K V → Type 0
-HandsBack {K} {V} eq key value pairs (Present k v) = (k ≡ key) × (v ≡ value) × ((pair : K × V) × IsThere (λ own. eq own key) pairs pair)
-HandsBack eq key value pairs (Memory k v) = (k ≡ key) × (v ≡ value) × IsAbsent (λ own. eq own key) pairs
+abbrev pub ReturnsPair : {K V : Type 0} → (K → K → Bool) → K → V → List (K × V) → NotInserted K V → Type 0
+ReturnsPair {K} {V} eq key value pairs (Present k v) = (k ≡ key) × (v ≡ value) × ((pair : K × V) × IsThere (λ own. eq own key) pairs pair)
+ReturnsPair eq key value pairs (Memory k v) = (k ≡ key) × (v ≡ value) × IsAbsent (λ own. eq own key) pairs
 
-module _ {K V H : Type 0} (wants : K → Bool) where
-  -- a matching pair is taken out, and there is none exactly if no key matches
+module _ {K V H : Type 0} (matches : K → Bool) where
+  -- a matching pair is removed, and there is none exactly if no key matches
   abbrev pub Takes : MapState K V H → Option (K × V) → MapState K V H → Type 0
-  Takes old (Some pair) new = (wants pair.0 ≡ true) × TakesPair old pair new
-  Takes old None new = IsAbsent wants old.pairs × KeepsPairs old new
+  Takes old (Some pair) new = (matches pair.0 ≡ true) × TakesPair old pair new
+  Takes old None new = IsAbsent matches old.pairs × KeepsPairs old new
 
   -- the value of a matching key is replaced, and the previous one is returned; if no key matches, the value is
   abbrev pub Swaps : V → MapState K V H → Result V V → MapState K V H → Type 0
-  Swaps value old (Ok earlier) new = (found : K) × (wants found ≡ true) × ChangesValue old (found, earlier) value new
-  Swaps value old (Err back) new = (back ≡ value) × IsAbsent wants old.pairs × KeepsPairs old new
+  Swaps value old (Ok earlier) new = (found : K) × (matches found ≡ true) × ChangesValue old (found, earlier) value new
+  Swaps value old (Err back) new = (back ≡ value) × IsAbsent matches old.pairs × KeepsPairs old new
 
   -- a matching pair is read and made a tombstone, and the map is without it; the result is `None` exactly if no key matches
   abbrev pub Marks : {R : Type 0} → (Bor K → Bor V → R → Type 0) → MapState K V H → Option R → MapState K V H → Type 0
   Marks reads old (Some answer) new =
-      (own : Bor K) × (value : Bor V) × reads own value answer × (wants own.now ≡ true) × TakesPair old (own.now, value.now) new
-  Marks reads old None new = IsAbsent wants old.pairs × KeepsPairs old new
+      (own : Bor K) × (value : Bor V) × reads own value answer × (matches own.now ≡ true) × TakesPair old (own.now, value.now) new
+  Marks reads old None new = IsAbsent matches old.pairs × KeepsPairs old new
 
   -- a matching pair is touched: the map stays, and the result is whether there is one
   abbrev pub Touches : MapState K V H → Bool → MapState K V H → Type 0
-  Touches old true new = ((pair : K × V) × IsThere wants old.pairs pair) × KeepsPairs old new
-  Touches old false new = IsAbsent wants old.pairs × KeepsPairs old new
+  Touches old true new = ((pair : K × V) × IsThere matches old.pairs pair) × KeepsPairs old new
+  Touches old false new = IsAbsent matches old.pairs × KeepsPairs old new
 
   -- a matching pair is passed to a function, and its value is what was written; the result is `None` exactly if no key matches
   abbrev pub Rewrites : {R : Type 0} → (Bor K → MutBor V → R → MutBor V → Type 0) → MapState K V H → Option R → MapState K V H
       → Type 0
   Rewrites changes old (Some answer) new =
-      (own : Bor K) × (before after : MutBor V) × changes own before answer after × (wants own.now ≡ true)
+      (own : Bor K) × (before after : MutBor V) × changes own before answer after × (matches own.now ≡ true)
       × ChangesValue old (own.now, before.now) after.now new
-  Rewrites changes old None new = IsAbsent wants old.pairs × KeepsPairs old new
+  Rewrites changes old None new = IsAbsent matches old.pairs × KeepsPairs old new
 
 module _ {K V H : Type 0} (eq : K → K → Bool) (key : K) where
   -- a pair is inserted if its key is absent; otherwise, or if allocation fails, it is returned
   abbrev pub Inserts : {A : Type 0} → V → MapState K V H → Result A (NotInserted K V) → MapState K V H → Type 0
   Inserts value old (Ok done) new = IsAbsent (λ own. eq own key) old.pairs × AddsPair old (key, value) new
-  Inserts value old (Err why) new = HandsBack eq key value old.pairs why × KeepsPairs old new
+  Inserts value old (Err why) new = ReturnsPair eq key value old.pairs why × KeepsPairs old new
 
   -- a pair is inserted if its key is absent; otherwise its value is replaced and the previous one returned; a pair that isn't inserted is
   -- returned
@@ -70,25 +70,11 @@ module _ {K V H : Type 0} (eq : K → K → Bool) (key : K) where
   Upserts value old (Ok (Some earlier)) new = (found : K) × (eq found key ≡ true) × ChangesValue old (found, earlier) value new
   Upserts value old (Err back) new = (back ≡ (key, value)) × IsAbsent (λ own. eq own key) old.pairs × KeepsPairs old new
 
--- a pair is taken out, or the map stays
+-- a pair is removed, or the map stays
 abbrev pub Evicts : {K V H E : Type 0} → MapState K V H → Result (Option (K × V)) E → MapState K V H → Type 0
 Evicts old (Ok (Some pair)) new = TakesPair old pair new
 Evicts old (Ok None) new = KeepsPairs old new
 Evicts old (Err refused) new = KeepsPairs old new
-
--- a new pair finds no free slot in a bucket
-abbrev pub HasNoSlot : {K V : Type 0} → ℕ → (ℕ → Bool) → BucketView K V → Type 0
-HasNoSlot kind keeps bucket = first_place is_free (slots_for_insertion kind keeps bucket) ≡ None
-
--- an insertion into a bucket: if the pair was inserted, no live slot had an equal key; if allocation failed, none had either, and no slot
--- is free; if the result says that the key is present, a live slot has it; a pair that isn't inserted is returned
-abbrev pub AnswersInsertion : {K V A : Type 0} → (K → K → Bool) → K → V → ℕ → ℕ → (ℕ → Bool) → BucketView K V → Result A (NotInserted K V)
-    → Type 0
-AnswersInsertion eq key value byte kind keeps bucket (Ok done) = place_wanted (λ own. eq own key) byte bucket ≡ None
-AnswersInsertion eq key value byte kind keeps bucket (Err (Present k v)) =
-    (k ≡ key) × (v ≡ value) × ((at : Place) × (place_wanted (λ own. eq own key) byte bucket ≡ Some at))
-AnswersInsertion eq key value byte kind keeps bucket (Err (Memory k v)) =
-    (k ≡ key) × (v ≡ value) × (place_wanted (λ own. eq own key) byte bucket ≡ None) × HasNoSlot kind keeps bucket
 
 -- a bucket as an insertion leaves it: with the pair if it was inserted, and otherwise unchanged
 abbrev pub InsertsIn : {K V : Type 0} → (K → K → Bool) → K → V → ℕ → ℕ → (ℕ → Bool) → BucketView K V → Result (Unit {0}) (NotInserted K V)
@@ -103,29 +89,29 @@ pub record PreparesThen {K V H : Type 0} (kind hash : ℕ) (old : TableView K V 
   pub prepared : IsPrepared kind hash old between
   pub done : Then between
 
-module _ {K V H : Type 0} (wants : K → Bool) (change : BucketView K V → Place → BucketView K V) where
+module _ {K V H : Type 0} (matches : K → Bool) (change : BucketView K V → Place → BucketView K V) where
   -- a place with a matching pair is changed, and nothing else is
   abbrev pub ChangesPlace : Side → ℕ → Place → TableView K V H → TableView K V H → Type 0
-  ChangesPlace side index at old new = StandsAt wants old.arrays side index at
+  ChangesPlace side index at old new = StandsAt matches old.arrays side index at
       × (new ≡ with_bucket old side index (change (bucket_on old.arrays side index) at))
 
   -- if a matching pair was found, its place is changed, and nothing else; otherwise nothing changes
   abbrev pub ChangesAt : Bool → TableView K V H → TableView K V H → Type 0
-  ChangesAt true old new = (side : Side) × (index : ℕ) × (at : Place) × StandsAt wants old.arrays side index at
+  ChangesAt true old new = (side : Side) × (index : ℕ) × (at : Place) × StandsAt matches old.arrays side index at
       × (new ≡ with_bucket old side index (change (bucket_on old.arrays side index) at))
   ChangesAt false old new = new ≡ old
 
   -- if a matching pair was found, its place is changed, and if the bucket then has no live pair, the arrays may shrink, by the plan or by
   -- the number of remaining pairs; otherwise nothing changes
   abbrev pub ShrinksAt : Option ℕ → Bool → TableView K V H → TableView K V H → Type 0
-  ShrinksAt left true old new = (side : Side) × (index : ℕ) × (at : Place) × StandsAt wants old.arrays side index at
+  ShrinksAt left true old new = (side : Side) × (index : ℕ) × (at : Place) × StandsAt matches old.arrays side index at
       × RemovesAndShrinks left old.arrays side index (change (bucket_on old.arrays side index) at) new.arrays
   ShrinksAt left false old new = new ≡ old
 
 -- if a matching pair was found, its value is replaced, and nothing else changes; otherwise nothing changes
 abbrev pub WritesAt : {K V H : Type 0} → (K → Bool) → Bool → TableView K V H → TableView K V H → Type 0
-WritesAt {K} {V} wants true old new = (value : V) × ChangesAt wants (λ bucket at. bucket_with_value bucket at value) true old new
-WritesAt wants false old new = new ≡ old
+WritesAt {K} {V} matches true old new = (value : V) × ChangesAt matches (λ bucket at. bucket_with_value bucket at value) true old new
+WritesAt matches false old new = new ≡ old
 
 -- the pair is inserted into the bucket that was found, and none is inserted if none was found; otherwise nothing changes, and allocation
 -- fails only if none was found, or one without a free slot

@@ -54,7 +54,7 @@ chained_among buckets = flat_map (λ bucket. live_pairs (flattened bucket.chain)
 abbrev pub IsHeldBy : {A K V : Type 0} → List A → List (BucketView K V) → Type 0
 IsHeldBy entries buckets = length entries ≤ 32 * length buckets + length (chained_among buckets)
 
--- a unit was worked, if there was an old array; then a resize is asked for if there is no pair and the minimum is 0
+-- a unit was worked, if there was an old array; then a resize is due if there is no pair and the minimum is 0
 pub record CountsAndResizes {K V : Type 0} (old new : ArraysView K V) : Type 0 where
   pub between : ArraysView K V
   pub kept : KeepsArrays old between

@@ -6,7 +6,7 @@ use Rattle.bucket_table.specs.Resize.Asking.{ResizesIf}
 use Rattle.bucket_table.specs.Resize.Growing.{Grows, WriterAsksGrowth}
 use Rattle.bucket_table.specs.Resize.Overfull.{GrowsOverfull}
 use Rattle.bucket_table.specs.Map.MapState.{KeepsPairs, state_of}
-use Rattle.bucket_table.specs.Map.Preparing.{HomeWantsMemory}
+use Rattle.bucket_table.specs.Map.Preparing.{HomeNeedsMemory}
 use Rattle.bucket_table.specs.Views.Keeping.{Keeps, KeepsArrays}
 use Rattle.bucket_table.specs.Views.Locking.{IsLocked}
 use Rattle.bucket_table.specs.Map.Refusing.{IsRefused}
@@ -26,7 +26,7 @@ pub record MakesReady {K V : Type 0} (old : ArraysView K V) (index : ℕ) (new :
   pub units : WorksUnits 1 (λ home. home ≡ index) old new
   pub killed : AreSourcesKilled new index
 
--- and then they may grow: the side says whether they did, and they do so only if the bucket asks for it; a caller that needs this
+-- and then they may grow: the side shows whether they did, and they do so only if a growth is due there; a caller that needs this
 -- definition unfolds it, since the search of one that doesn't would go through all of it
 unfoldable pub ReadiesThenGrows : {K V : Type 0} → ℕ → ℕ → ArraysView K V → Side → ℕ → ArraysView K V → Type 0
 ReadiesThenGrows {K} {V} kind hash old side index new = (between : ArraysView K V) × MakesReady old index between
@@ -43,7 +43,7 @@ pub record FindsNone {K V : Type 0} (hash : ℕ) (old new : ArraysView K V) : Ty
   pub kept : KeepsArrays old new
   pub units : WorksUnits 1 (IsHome (length new.current) hash) old new
   pub alone : length old.linked ≡ 0 → (length old.current ≡ 0) × (new ≡ old)
-  pub home : 0 < length new.current → HomeWantsMemory hash old new
+  pub home : 0 < length new.current → HomeNeedsMemory hash old new
 
 -- a hash's home in the array of its side is found for a writer, and may be locked; the map, the tombstones and the open tickets stay
 pub record FindsBucket {K V H : Type 0} (rule : ResizeRule) (kind hash : ℕ) (old : TableView K V H) (side : Side) (index : ℕ)

@@ -22,11 +22,11 @@ with_value table side index at value = with_bucket table side index (bucket_with
 
 -- the value of a matching key was `before` and is now `value`: a unit was worked and the sources of a hash's home moved, and then one slot
 -- was written, and touched if the call touches
-pub record WritesUnder {K V H : Type 0} (touches : Bool) (wants : K → Bool) (kind hash : ℕ) (old : TableView K V H) (before value : V)
+pub record WritesUnder {K V H : Type 0} (touches : Bool) (matches : K → Bool) (kind hash : ℕ) (old : TableView K V H) (before value : V)
     (new : TableView K V H) : Type 0 where
-  pub map : Swaps wants value (state_of kind old) (Ok before) (state_of kind new)
+  pub map : Swaps matches value (state_of kind old) (Ok before) (state_of kind new)
   pub arrays : PreparesThen kind hash old (λ between.
-      ChangesAt wants (λ bucket at. bucket_with_value (slots_touched touches bucket at) at value) true between new)
+      ChangesAt matches (λ bucket at. bucket_with_value (slots_touched touches bucket at) at value) true between new)
 
 module _ (K V H L : RattleType) (TYPE : ℕ) (equal : equals.Ghosts K.Denot) (hashing : key_hash.Ghosts H.Denot K.Denot)
     (listing : list.Ghosts L.Denot) (fresh : default.Ghosts L.Denot) (table : MutBor (TableView K.Denot V.Denot H.Denot)) where
@@ -38,7 +38,7 @@ module _ (K V H L : RattleType) (TYPE : ℕ) (equal : equals.Ghosts K.Denot) (ha
   -- the value of a matching key was what the loan showed, and is now the last one written through it, and its slot is touched if the call
   -- touches; if nothing is lent, only a unit was worked
   abbrev pub LendsUnder : Bool → (K.Denot → Bool) → ℕ → Option (MutBor V.Denot) → Fml
-  LendsUnder touches wants hash loan =
+  LendsUnder touches matches hash loan =
       LendsSo (table_row K V H L (number TYPE) equal hashing listing fresh) V table loan
-      (λ new value. IfSome loan (λ lent. WritesUnder touches wants TYPE hash table.now lent.now value new))
+      (λ new value. IfSome loan (λ lent. WritesUnder touches matches TYPE hash table.now lent.now value new))
       (λ new. IfNone loan (IsPrepared TYPE hash table.now new))

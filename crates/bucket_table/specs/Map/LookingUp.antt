@@ -5,7 +5,7 @@ use Rattle.std.specs.List.{All, Contains}
 use Rattle.std.specs.Option.{option_copied, option_or, unwrap_or}
 use Rattle.bucket_slots.specs.ArrayView.{bucket_at}
 use Rattle.bucket_slots.specs.BucketView.{BucketView, pairs_in}
-use Rattle.bucket_slots.specs.Searching.{matching_len, pair_wanted}
+use Rattle.bucket_slots.specs.Searching.{matching_len, pair_matched}
 use Rattle.bucket_table.specs.Rehash.Relocation.{home_of}
 
 -- the live pairs of buckets, bucket by bucket
@@ -15,11 +15,11 @@ pairs_in_all (bucket ∷ buckets) = pairs_in bucket ++ pairs_in_all buckets
 
 -- no pair has a matching key
 abbrev pub IsAbsent : {K V : Type 0} → (K → Bool) → List (K × V) → Type 0
-IsAbsent wants pairs = All (λ pair. wants pair.0 ≡ false) pairs
+IsAbsent matches pairs = All (λ pair. matches pair.0 ≡ false) pairs
 
 -- the pair is one of the pairs, and its key matches
 abbrev pub IsThere : {K V : Type 0} → (K → Bool) → List (K × V) → K × V → Type 0
-IsThere wants pairs pair = Contains pairs pair × (wants pair.0 ≡ true)
+IsThere matches pairs pair = Contains pairs pair × (matches pair.0 ≡ true)
 
 -- the bucket that is a hash's home, or an empty one if there are no buckets
 abbrev pub home_bucket : {K V : Type 0} → ℕ → List (BucketView K V) → BucketView K V
@@ -31,8 +31,8 @@ lent_buckets lent = unwrap_or (option_copied lent) []
 
 -- the pair that a look-up of a hash finds: the first matching one of its old home, else of its current one
 abbrev pub pair_looked_up : {K V : Type 0} → (K → Bool) → ℕ → List (BucketView K V) → List (BucketView K V) → Option (K × V)
-pair_looked_up wants hash old current =
-    option_or (pair_wanted wants (hash % 256) (home_bucket hash old)) (pair_wanted wants (hash % 256) (home_bucket hash current))
+pair_looked_up matches hash old current =
+    option_or (pair_matched matches (hash % 256) (home_bucket hash old)) (pair_matched matches (hash % 256) (home_bucket hash current))
 
 -- the number of live slots of both homes that have the hash's low byte
 abbrev pub looked_up_len : {K V : Type 0} → ℕ → List (BucketView K V) → List (BucketView K V) → ℕ

@@ -7,17 +7,17 @@ use Rattle.bucket_slots.specs.BucketView.{BucketView, Place}
 use Rattle.bucket_slots.specs.Recency.{order_after_touch}
 use Rattle.bucket_slots.specs.Evicting.{slot_to_evict, slots_evicted}
 use Rattle.bucket_slots.specs.Homes.{IsHome}
-use Rattle.bucket_slots.specs.Searching.{place_wanted}
+use Rattle.bucket_slots.specs.Searching.{place_matched}
 use Rattle.bucket_slots.specs.Slots.{free, is_free, live, live_pair, slot_at}
 use Rattle.bucket_table.specs.Views.ArraysView.{TableView}
-use Rattle.bucket_table.specs.Map.ByKey.{HandsBack}
+use Rattle.bucket_table.specs.Map.ByKey.{ReturnsPair}
 use Rattle.bucket_table.specs.Map.LookingUp.{IsAbsent}
 use Rattle.bucket_table.specs.Map.Preparing.{IsReady}
 use Rattle.bucket_table.specs.Map.MapState.{MapState, AddsPair, Becomes, KeepsPairs}
 use Rattle.bucket_table.specs.Views.Sides.{bucket_on, with_bucket}
 use Rattle.bucket_table.specs.declared.arrays.side.Side.TheVariants.{Current}
-use Rattle.bucket_table.specs.declared.hash_table.NotInserted.{NotInserted}
-use Rattle.bucket_table.specs.declared.hash_table.NotInserted.TheVariants.{Present, Memory}
+use Rattle.bucket_slots.specs.declared.not_inserted.NotInserted.{NotInserted}
+use Rattle.bucket_slots.specs.declared.not_inserted.NotInserted.TheVariants.{Present, Memory}
 use Rattle.bucket_table.specs.declared.arrays.side.Side.{Side}
 
 -- one pair is removed and another inserted, and nothing else changes: the other pairs stay
@@ -32,7 +32,7 @@ abbrev pub Puts : {K V H : Type 0} → (K → K → Bool) → K → V → MapSta
     → Type 0
 Puts eq key value old (Ok None) new = IsAbsent (λ own. eq own key) old.pairs × AddsPair old (key, value) new
 Puts eq key value old (Ok (Some gone)) new = IsAbsent (λ own. eq own key) old.pairs × ReplacesPair old gone (key, value) new
-Puts eq key value old (Err why) new = HandsBack eq key value old.pairs why × KeepsPairs old new
+Puts eq key value old (Err why) new = ReturnsPair eq key value old.pairs why × KeepsPairs old new
 
 module _ {K V : Type 0} where
   -- the pair that is evicted for a new one: none if an own slot is free, else the one touched longest ago, or that of slot 0 if none is
@@ -60,9 +60,9 @@ module _ {K V : Type 0} where
   abbrev pub PutsIn : (K → K → Bool) → Bool → K → V → ℕ → BucketView K V → Result (Option (K × V)) (NotInserted K V) → BucketView K V
       → Type 0
   PutsIn eq keeps key value byte old (Ok gone) new =
-      (place_wanted (λ own. eq own key) byte old ≡ None) × Goes old gone × (new ≡ slots_put keeps (slots_left old gone) (key, value) byte)
+      (place_matched (λ own. eq own key) byte old ≡ None) × Goes old gone × (new ≡ slots_put keeps (slots_left old gone) (key, value) byte)
   PutsIn eq keeps key value byte old (Err (Present k v)) new =
-      (k ≡ key) × (v ≡ value) × ((at : Place) × (place_wanted (λ own. eq own key) byte old ≡ Some at)) × (new ≡ old)
+      (k ≡ key) × (v ≡ value) × ((at : Place) × (place_matched (λ own. eq own key) byte old ≡ Some at)) × (new ≡ old)
   PutsIn eq keeps key value byte old (Err (Memory k v)) new = ⊥
 
 -- the pair that is evicted from a hash's home, once that is ready, is removed; without an array there is none, and if the call fails, the

@@ -1,6 +1,6 @@
 -- What the home of a hash is if no key of that hash matches.
 use Rattle.std.specs.Prelude.{ℕ, ◌≡◌, ◌<◌, length}
-use Rattle.bucket_table.specs.Map.Preparing.{HomeWantsMemory, IsReady}
+use Rattle.bucket_table.specs.Map.Preparing.{HomeNeedsMemory, IsReady}
 use Rattle.bucket_table.specs.Views.ArraysView.{ArraysView}
 use Rattle.bucket_table.specs.declared.hash_table.Vacancy.{Vacancy}
 use Rattle.bucket_table.specs.declared.hash_table.Vacancy.TheVariants.{NoArray, NoMemory, Ready}
@@ -9,4 +9,4 @@ use Rattle.bucket_table.specs.declared.hash_table.Vacancy.TheVariants.{NoArray, 
 abbrev pub IsVacancy : {K V : Type 0} → Vacancy → ℕ → ArraysView K V → ArraysView K V → Type 0
 IsVacancy Ready hash old new = IsReady new hash
 IsVacancy NoArray hash old new = (length old.current ≡ 0) × (length old.linked ≡ 0)
-IsVacancy NoMemory hash old new = (0 < length old.linked) × HomeWantsMemory hash old new
+IsVacancy NoMemory hash old new = (0 < length old.linked) × HomeNeedsMemory hash old new

@@ -38,7 +38,7 @@ WentInOrder buckets [] = Unit {0}
 WentInOrder buckets (pair ∷ rest) = All (λ other. WentFirst buckets pair other) rest × WentInOrder buckets rest
 
 -- old buckets have moved, one after another, with their LRU order: each other old bucket has the same pairs and list; no pair of the
--- current array leaves its place; and each listed pair of those that moved is now there, listed if it has an own slot. The pairs of a
+-- current array leaves its place; and each listed pair of those that moved is now in it, listed if it has an own slot. The pairs of a
 -- bucket move in slot order, so the first of them get the own slots of a home
 pub record CarriesOrder {K V : Type 0} (old new : ArraysView K V) : Type 0 where
   pub moved : List ℕ

@@ -1,6 +1,6 @@
 -- Finishing a rehash, unit by unit.
 use Rattle.std.specs.Prelude.{ℕ, ◌+◌, ◌*◌, ◌-◌, ◌/◌, ◌<◌, ◌≡◌, Bool, true, false, [], Option, IfNone, IfSome, length}
-use Rattle.bucket_table.specs.Rehash.Units.{WantsMemory}
+use Rattle.bucket_table.specs.Rehash.Units.{NeedsMemory}
 use Rattle.bucket_table.specs.Views.ArraysView.{ArraysView}
 
 -- the number of units of the old array left to issue: those from the position on
@@ -18,4 +18,4 @@ pub record Finishes {K V : Type 0} (old : ArraysView K V) (answer : Option Bool)
   pub none : IfNone answer ((length old.linked ≡ 0) × (new ≡ old))
   pub one : IfSome answer (λ success. (64 * old.tickets.position < length old.linked)
       × (success ≡ true → units_left new + 1 ≡ units_left old)
-      × (success ≡ false → (new.tickets.position ≡ old.tickets.position) × WantsMemory (λ i. Unit {0}) old new))
+      × (success ≡ false → (new.tickets.position ≡ old.tickets.position) × NeedsMemory (λ i. Unit {0}) old new))

@@ -32,7 +32,7 @@ pub record NeedsNoMemory {K V : Type 0} (start end : ℕ) (arrays : ArraysView K
 
 -- allocation failed for one of some old buckets: it isn't killed, and those of them before it are. At entry it needed memory: the current
 -- array was shorter, or the bucket had more than 32 live pairs
-pub record WantsMemory {K V : Type 0} (IsOne : ℕ → Type 0) (old new : ArraysView K V) : Type 0 where
+pub record NeedsMemory {K V : Type 0} (IsOne : ℕ → Type 0) (old new : ArraysView K V) : Type 0 where
   pub index : ℕ
   pub one : IsOne index
   pub within : index < length new.linked
@@ -49,7 +49,7 @@ SpendsSome was is = (i : ℕ) → (bucket_at is i ≡ bucket_at was i)
 abbrev pub IsAlive : {K V : Type 0} → List (BucketView K V) → ℕ → Type 0
 IsAlive buckets i = (i < length buckets) × ((bucket_at buckets i).killed ≡ false)
 
--- a bucket that isn't killed is still there and still isn't killed, unless it is one of the given ones
+-- a bucket that isn't killed still exists and still isn't killed, unless it is one of the given ones
 abbrev pub KillsOnly : {K V : Type 0} → (ℕ → Type 0) → List (BucketView K V) → List (BucketView K V) → Type 0
 KillsOnly IsOne was is = (i : ℕ) → IsAlive was i → IsOne i ⊎ IsAlive is i
 

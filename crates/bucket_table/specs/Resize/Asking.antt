@@ -22,11 +22,11 @@ pub record AsksShrinking {K V : Type 0} (arrays : ArraysView K V) (index : ℕ) 
   pub more : arrays.minimum < slots_of (live_counts arrays.current)
   pub near : IsDeserted (live_counts arrays.current) index
 
--- if a resize is asked for, the arrays follow the plan, or stay if allocation fails; otherwise they stay
+-- if a resize is due, the arrays follow the plan, or stay if allocation fails; otherwise they stay
 abbrev pub ResizesIf : {K V : Type 0} → Type 0 → ArraysView K V → ArraysView K V → Type 0
 ResizesIf Asked old new = (Asked × Resizes old new) ⊎ ((Asked → ⊥) × (new ≡ old))
 
--- a removal shrinks the arrays by the plan if it emptied a bucket and the slots near it ask for that; if the number of remaining pairs is
+-- a removal shrinks the arrays by the plan if it emptied a bucket and a shrink is due near it; if the number of remaining pairs is
 -- given, it must agree; otherwise the arrays stay
 abbrev pub ShrinksBy : {K V : Type 0} → Option ℕ → Type 0 → ℕ → ArraysView K V → ArraysView K V → Type 0
 ShrinksBy None Emptied index old new = ResizesIf (Emptied × AsksShrinking old index) old new

@@ -1,17 +1,21 @@
--- A growth for one bucket with far more pairs than own slots, whatever the samples of a resize say.
-use Rattle.std.specs.Prelude.{ℕ, ◌*◌, ◌≤◌, ◌≡◌, Bool, true, false, Result, Ok, Err, length}
+-- A growth for one bucket with far more pairs than own slots, whatever the samples of a resize show.
+use Rattle.std.specs.Prelude.{ℕ, ◌*◌, ◌≤◌, ◌≡◌, ◌⊎◌, Bool, true, false, Result, Ok, Err, length}
 use Rattle.bucket_slots.specs.ArrayView.{bucket_at}
-use Rattle.bucket_slots.specs.BucketView.{pairs_in}
+use Rattle.bucket_slots.specs.BucketView.{BucketView, pairs_in}
 use Rattle.bucket_slots.specs.Homes.{IsHome}
 use Rattle.bucket_table.specs.Resize.Resizing.{IsPushed}
 use Rattle.bucket_table.specs.Views.ArraysView.{ArraysView, pairs_of}
 
--- there is no old array, and a hash's home has 48 live pairs or more
+-- a bucket has 48 live pairs or more, or 32 and a chain of 8 blocks, whose slots may be tombstones
+abbrev pub IsOverfullBucket : {K V : Type 0} → BucketView K V → Type 0
+IsOverfullBucket bucket = (48 ≤ length (pairs_in bucket)) ⊎ ((32 ≤ length (pairs_in bucket)) × (8 ≤ length bucket.chain))
+
+-- there is no old array, and a hash's home is an overfull bucket
 pub record HasFullHome {K V : Type 0} (hash : ℕ) (arrays : ArraysView K V) : Type 0 where
   pub index : ℕ
   pub alone : length arrays.linked ≡ 0
   pub home : IsHome (length arrays.current) hash index
-  pub full : 48 ≤ length (pairs_in (bucket_at arrays.current index))
+  pub full : IsOverfullBucket (bucket_at arrays.current index)
 
 -- the same, and there is a pair for each 8 slots, and twice the slots do not exceed the maximum
 pub record IsOverfull {K V : Type 0} (hash : ℕ) (arrays : ArraysView K V) : Type 0 where

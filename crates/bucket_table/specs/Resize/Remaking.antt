@@ -3,7 +3,7 @@ use Rattle.std.specs.Prelude.{ℕ, ◌≡◌, ◌⊎◌, [], Result, Ok, OnErr, 
 use Rattle.bucket_slots.specs.Sizing.{IsLengthFor}
 use Rattle.bucket_table.specs.Rehash.Carrying.{CarriesOrder}
 use Rattle.bucket_table.specs.Rehash.State.{first_tickets}
-use Rattle.bucket_table.specs.Rehash.Units.{WantsMemory}
+use Rattle.bucket_table.specs.Rehash.Units.{NeedsMemory}
 use Rattle.bucket_table.specs.Resize.Resizing.{IsPushed}
 use Rattle.bucket_table.specs.Views.ArraysView.{ArraysView}
 use Rattle.bucket_table.specs.Views.Keeping.{Keeps}
@@ -33,4 +33,4 @@ pub record RehashesTo {K V E : Type 0} (capacity : ℕ) (old : ArraysView K V) (
   pub current_len : (length new.current ≡ length old.current) ⊎ IsLengthFor capacity (length new.current)
   pub settled : OnOk answer (IsSettledAt capacity new)
   pub there : IsSettledAt capacity old → (answer ≡ Ok tt) × (new ≡ old)
-  pub refused : OnErr answer (IsLengthFor capacity (length old.current) → WantsMemory (λ i. Unit {0}) (unopened old) new)
+  pub refused : OnErr answer (IsLengthFor capacity (length old.current) → NeedsMemory (λ i. Unit {0}) (unopened old) new)

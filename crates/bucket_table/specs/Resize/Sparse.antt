@@ -18,7 +18,7 @@ FreesSlots pairs (Resize capacity) old new =
     ((capacity < 32 * length old.current) × (IsPushed (max capacity (pairs * 2)) old new ⊎ (new ≡ old)))
     ⊎ ((32 * length old.current ≤ capacity) × (new ≡ old))
 
--- if a shrinking is asked for, the arrays follow their plan if it frees slots; otherwise they stay
+-- if a shrink is due, the arrays follow their plan if it frees slots; otherwise they stay
 abbrev pub ShrinksIf : {K V : Type 0} → Type 0 → ℕ → ArraysView K V → ArraysView K V → Type 0
 ShrinksIf Asked pairs old new =
     (Asked × ((plan : Plan) × IsPlanOf old plan × FreesSlots pairs plan old new)) ⊎ ((Asked → ⊥) × (new ≡ old))

@@ -14,7 +14,7 @@ pub record Tallies {K V : Type 0} (buckets pairs : ℕ) (lent : BucketView K V) 
   pub buckets_are : buckets_then ≡ sum_to buckets 1
   pub pairs_are : pairs_then ≡ sum_to pairs (length (pairs_in lent))
 
--- the bucket's live pairs are taken out, or become tombstones with an epoch, each at its place, and are counted; the flag is set if there
+-- the bucket's live pairs are removed, or become tombstones with an epoch, each at its place, and are counted; the flag is set if there
 -- was one, and the walk continues
 pub record Empties {K V : Type 0} (kind epoch count : ℕ) (lent : BucketView K V) (flag more : Bool)
     (left : BucketView K V) (last : Bool) (count_then : ℕ) : Type 0 where

@@ -1,4 +1,4 @@
--- The tickets of an old array and its killed buckets, as a machine that knows no pairs, and what each call does to it.
+-- The tickets of an old array and its killed buckets, as a machine without pairs, and what each call does to it.
 use Rattle.std.specs.Prelude.{ℕ, ◌/◌, ◌<◌, ◌≤◌, ◌≡◌, Bool, true, false, [], Some, None, Result, Ok, Err, length, slice_index_or, slice_set}
 use Rattle.bucket_table.specs.Views.ArraysView.{ArraysView, killed_flags}
 use Rattle.bucket_table.specs.Rehash.Covered.{AreAllKilled, IsUnitKilled, RehashState}

@@ -27,8 +27,8 @@ abbrev pub entries_of : {K V : Type 0} → ArraysView K V → List ((K × V) × 
 entries_of arrays = entries_among arrays.current ++ entries_among arrays.linked
 
 -- the pairs of the current array's tombstones with their epochs, and then of the old one
-abbrev pub marks_of : {K V : Type 0} → ArraysView K V → List ((K × V) × ℕ)
-marks_of arrays = marks_among arrays.current ++ marks_among arrays.linked
+abbrev pub tombstones_of : {K V : Type 0} → ArraysView K V → List ((K × V) × ℕ)
+tombstones_of arrays = marks_among arrays.current ++ marks_among arrays.linked
 
 -- the map that the arrays represent
 abbrev pub pairs_of : {K V : Type 0} → ArraysView K V → List (K × V)
@@ -45,7 +45,7 @@ pub record LosesNoUnit {K V : Type 0} (linked : List (BucketView K V)) (tickets 
   pub emptied : All (λ bucket. bucket.killed ≡ true → pairs_in bucket ≡ []) linked
 
 -- the capacities bound each other and the current array, an old array has a current one beside it, and the tickets are those of the old
--- one; nothing is said of the content of a bucket, since buckets are lent for writing
+-- one; the content of a bucket isn't restricted, since buckets are lent for writing
 pub record AreArrays {K V : Type 0} (arrays : ArraysView K V) : Type 0 where
   pub maximum_power : IsPowerIn 64 (2 ^ 63) arrays.maximum
   pub bounded : arrays.minimum ≤ arrays.maximum

@@ -5,7 +5,7 @@ use Rattle.std.specs.List.Sorted.{IsPermutation}
 use Rattle.bucket_slots.specs.ArrayView.{bucket_at}
 use Rattle.bucket_slots.specs.BucketView.{BucketView}
 use Rattle.bucket_slots.specs.Marking.{HasNoNewMark}
-use Rattle.bucket_table.specs.Views.ArraysView.{ArraysView, entries_of, marks_of}
+use Rattle.bucket_table.specs.Views.ArraysView.{ArraysView, entries_of, tombstones_of}
 use Rattle.bucket_table.specs.Rehash.Carrying.{CarriesOrder}
 use Rattle.bucket_table.specs.Rehash.State.{TicketState}
 
@@ -16,7 +16,7 @@ KeepsOpenTickets old new = (unit : ℕ) → count_by (λ other. other == unit) n
 -- the pairs, the capacities and the open tickets stay, and no tombstone is new
 pub record Keeps {K V : Type 0} (old new : ArraysView K V) : Type 0 where
   pub pairs : IsPermutation (entries_of old) (entries_of new)
-  pub marks : HasNoNewMark (marks_of old) (marks_of new)
+  pub marks : HasNoNewMark (tombstones_of old) (tombstones_of new)
   pub minimum : new.minimum ≡ old.minimum
   pub maximum : new.maximum ≡ old.maximum
   pub open_tickets : KeepsOpenTickets old.tickets new.tickets

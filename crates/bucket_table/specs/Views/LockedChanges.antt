@@ -8,7 +8,7 @@ use Rattle.bucket_slots.specs.BucketView.{BucketView, Place, slot_in}
 use Rattle.bucket_slots.specs.Clearing.{slots_for_insertion}
 use Rattle.bucket_slots.specs.Placing.{place_for_next}
 use Rattle.bucket_slots.specs.Slots.{live}
-use Rattle.bucket_table.specs.Map.ByKey.{HasNoSlot}
+use Rattle.bucket_slots.specs.Digested.{HasNoSlot}
 use Rattle.bucket_table.specs.Resize.Asking.{RemovesAndShrinks}
 use Rattle.bucket_table.specs.Views.ArraysView.{TableView}
 use Rattle.bucket_table.specs.Views.Sides.{bucket_on, with_bucket}

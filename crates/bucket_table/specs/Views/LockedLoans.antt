@@ -16,7 +16,7 @@ use Rattle.bucket_table.specs.Views.LockedLaws.{locked_with_value_is}
 
 module _ {K V H L : Type 0} {TYPE : ℕ} {equal : equals.Ghosts K} {hashing : key_hash.Ghosts H K} {listing : list.Ghosts L}
     {fresh : default.Ghosts L} where
-  -- the table after the slot at the place has got the value
+  -- the table with this value in the slot at the place
   abbrev pub table_with_value : LockedBucket K V H L TYPE equal hashing listing fresh → Place → V → TableView K V H
   table_with_value locked place value = with_bucket locked.table.now locked.side locked.index
       (bucket_with_value (bucket_on locked.table.now.arrays locked.side locked.index) place value)

@@ -1,11 +1,11 @@
--- The pairs of a cache's arrays in order of use, and what a walk over them has yet to visit.
+-- The pairs of a cache's arrays in LRU order, and what a walk over them has yet to visit.
 use Rattle.std.specs.Prelude.{ℕ, List, [], ◌∷◌, ◌++◌, Option, Some, None, map}
 use Rattle.bucket_slots.specs.BucketView.{BucketView}
 use Rattle.bucket_slots.specs.ByUse.{pairs_by_use}
 use Rattle.bucket_slots.specs.Slots.{live_pairs, slot_at}
 use Rattle.bucket_table.specs.Views.ArraysView.{ArraysView}
 
--- the live pairs of buckets, bucket by bucket, those of each in order of use
+-- the live pairs of buckets, bucket by bucket, those of each in LRU order
 abbrev pub all_by_use : {K V : Type 0} → List (BucketView K V) → List (K × V)
 all_by_use [] = []
 all_by_use (bucket ∷ buckets) = pairs_by_use bucket ++ all_by_use buckets

@@ -7,13 +7,13 @@ use Rattle.bucket_slots.specs.Homes.{IsInInterval, IsInRange, Meets, interval_wi
 use Rattle.bucket_slots.specs.Marking.{HasNoNewMark}
 use Rattle.bucket_slots.specs.Slots.{live_pair}
 use Rattle.bucket_slots.specs.Walking.{MovesToNext, pairs_ahead}
-use Rattle.bucket_table.specs.Views.ArraysView.{AreSourcesKilled, ArraysView, IsSource, TableView, marks_of, pairs_of}
+use Rattle.bucket_table.specs.Views.ArraysView.{AreSourcesKilled, ArraysView, IsSource, TableView, tombstones_of, pairs_of}
 use Rattle.bucket_table.specs.Resize.Asking.{AsksShrinking, ResizesIf}
 use Rattle.bucket_table.specs.Views.Locking.{IsLocked}
 use Rattle.bucket_table.specs.Map.MapState.{KeepsPairs, state_of}
 use Rattle.bucket_table.specs.Views.Keeping.{KeepsArrays, KeepsOpenTickets}
 use Rattle.bucket_table.specs.Views.Sides.{bucket_on, buckets_on}
-use Rattle.bucket_table.specs.Rehash.Units.{WantsMemory, WorksUnits}
+use Rattle.bucket_table.specs.Rehash.Units.{NeedsMemory, WorksUnits}
 use Rattle.bucket_table.specs.declared.arrays.Missing.{Missing}
 use Rattle.bucket_table.specs.declared.arrays.Missing.TheVariants.{Nothing, Memory}
 use Rattle.bucket_table.specs.declared.arrays.side.Side.{Side}
@@ -93,9 +93,9 @@ pub record Passes {K V A : Type 0} (index_of : A → ℕ) (bound : ℕ) (old : A
   pub units : WorksUnits (units_passed result passed) (IsInRange from (from + units_passed result passed)) old new
   pub sources : AreKilledFor new from (from + passed)
   pub alone : length old.linked ≡ 0 → new ≡ old
-  pub wanted : IsErrAnd result (λ missing. missing ≡ Memory) → WantsMemory (IsSource new (from + passed)) old new
+  pub wanted : IsErrAnd result (λ missing. missing ≡ Memory) → NeedsMemory (IsSource new (from + passed)) old new
 
--- a bucket is left: if it has no live pair, and a shrinking is asked for near it, the arrays follow the plan or stay if allocation fails;
+-- a bucket is left: if it has no live pair, and a shrink is due near it, the arrays follow the plan or stay if allocation fails;
 -- otherwise they stay. Then the buckets past it are passed
 pub record ShrinksThenPasses {K V A : Type 0} (index_of : A → ℕ) (side : Side) (index : ℕ) (old : ArraysView K V)
     (result : Result A Missing) (new : ArraysView K V) : Type 0 where
@@ -108,7 +108,7 @@ pub record SetsOut {K V H : Type 0} (kind : ℕ) (hash : H → K → ℕ) (old :
     (at : Place) (new : TableView K V H) : Type 0 where
   pub map : KeepsPairs (state_of kind old) (state_of kind new)
   pub bag : KeepsOpenTickets old.arrays.tickets new.arrays.tickets
-  pub marks : HasNoNewMark (marks_of old.arrays) (marks_of new.arrays)
+  pub marks : HasNoNewMark (tombstones_of old.arrays) (tombstones_of new.arrays)
   pub found : IsFoundFrom (hash old.hasher) 0 result new.arrays at
   pub passes : Passes (λ index. index) 0 old.arrays result new.arrays
 
@@ -118,7 +118,7 @@ pub record Advances {K V H : Type 0} (kind : ℕ) (hash : H → K → ℕ) (old 
     (from : Place) (result : Result (Side × ℕ) Missing) (to : Place) (new : TableView K V H) : Type 0 where
   pub map : KeepsPairs (state_of kind old) (state_of kind new)
   pub bag : KeepsOpenTickets old.arrays.tickets new.arrays.tickets
-  pub marks : HasNoNewMark (marks_of old.arrays) (marks_of new.arrays)
+  pub marks : HasNoNewMark (tombstones_of old.arrays) (tombstones_of new.arrays)
   pub stays : pairs_ahead (bucket_on old.arrays side index) from ≢ []
       → (result ≡ Ok (side, index)) × (new.arrays ≡ old.arrays) × MovesToNext (bucket_on old.arrays side index) from to
   pub leaves : pairs_ahead (bucket_on old.arrays side index) from ≡ []

@@ -1,4 +1,4 @@
--- The kinds of table whose pairs are taken out of their slots.
+-- The kinds of table whose removed pairs leave their slots.
 use Rattle.std.specs.Prelude.{ℕ, ◌≢◌}
 use Rattle.bucket_slots.specs.declared.bucket.TheConstants.{INDEX}
 

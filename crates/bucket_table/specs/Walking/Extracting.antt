@@ -1,4 +1,4 @@
--- An extraction, which takes pairs out of the arrays one by one.
+-- An extraction, which removes pairs from the arrays one by one.
 use Rattle.std.specs.Prelude.{ℕ, ◌≡◌, ◌≢◌, ◌⊎◌, Bool, false, not, List, [], ◌∷◌, ◌++◌, Option, Some, None, length}
 use Rattle.std.specs.Borrow.{Bor, MutBor}
 use Rattle.std.specs.Cmp.{IsEquivalence}
@@ -30,7 +30,7 @@ pub record KeepsShape {K V : Type 0} (old new : ArraysView K V) : Type 0 where
   pub current_len : length new.current ≡ length old.current
   pub linked_len : length new.linked ≡ length old.linked
 
--- a function is called with the remaining pairs, in turn, up to the first that it picks, which is taken out; those that it didn't pick stay
+-- a function is called with the remaining pairs, in turn, up to the first that it picks, which is removed; those that it didn't pick stay
 -- in their order, as it left them, and no other pair changes; each bucket keeps its other slots and its LRU order
 pub record Extracts {S K V : Type 0} (kind : ℕ) (asks : S → K × V → Bool → S → K × V → Type 0) (first : S) (old : ExtractView K V)
     (picked : Option (K × V)) (new : ExtractView K V) (last : S) : Type 0 where

@@ -10,7 +10,7 @@ use Rattle.bucket_table.specs.Resize.Asking.{AsksShrinking, ResizesIf}
 use Rattle.bucket_table.specs.Walking.Cursors.{AreKilledFor, bound_of}
 use Rattle.bucket_table.specs.Views.Keeping.{Keeps, KeepsArrays}
 use Rattle.bucket_table.specs.Views.Sides.{arrays_with, bucket_on}
-use Rattle.bucket_table.specs.Rehash.Units.{WantsMemory, WorksUnits, steps_of}
+use Rattle.bucket_table.specs.Rehash.Units.{NeedsMemory, WorksUnits, steps_of}
 use Rattle.bucket_table.specs.Walking.Visits.{AreCalls, HasStopped, Visited}
 use Rattle.bucket_table.specs.declared.arrays.side.Side.TheVariants.{Current}
 
@@ -91,7 +91,7 @@ pub record WalksBy {S A E K V : Type 0} (step : S → BucketView K V → Bool �
   pub units : WorksUnits (steps_of result (length visits)) (IsInRange from (from + steps_of result (length visits))) old ended
   pub sources : AreKilledFor ended from (from + length visits)
   pub within : 0 < length visits → from + length visits ≤ length old.current
-  pub wanted : OnErr result (WantsMemory (IsSource ended (from + length visits)) old ended)
+  pub wanted : OnErr result (NeedsMemory (IsSource ended (from + length visits)) old ended)
   pub whole : OnOk result ((length old.current ≤ from + length visits) ⊎ HasStopped visits)
   pub going : OnErr result (HasStopped visits → ⊥)
   pub ends : EndsWalk (is_ok result && flag) ended new

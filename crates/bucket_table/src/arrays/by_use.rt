@@ -41,7 +41,7 @@ impl<'a, K, V> BucketByUse<'a, K, V> {
     fn new(bucket: &'a Bucket<K, V, DoublyLinkedList, CACHE>) -> Self
         ensures { result ≡ pairs_by_use bucket.now }
     {
-        bucket.sound();
+        bucket.fact_sound();
         BucketByUse {
             bucket,
             slots: bucket.slots_by_use(),
@@ -58,7 +58,7 @@ impl<'a, K, V> BucketByUse<'a, K, V> {
         ensures { YieldsFirstBy (λ pair. (pair.0.now, pair.1.now)) (λ left. left) self.old result
             self.new }
     {
-        array.room();
+        array.fact_room();
         let bucket = self.bucket;
         match own_past(bucket, &self.slots, &mut self.given) {
             Some((key, value)) => Some((key, value)),
@@ -136,7 +136,7 @@ impl<'a, K, V> ArrayByUse<'a, K, V> {
     fn new(array: &'a BucketArray<K, V, DoublyLinkedList, CACHE>) -> Self
         ensures { result ≡ all_by_use array.now }
     {
-        array.room();
+        array.fact_room();
         ArrayByUse {
             array,
             here: BucketByUse::new(array.bucket(0)),
@@ -150,7 +150,7 @@ impl<'a, K, V> ArrayByUse<'a, K, V> {
             self.new }
     {
         'buckets: loop {
-            self.array.room();
+            self.array.fact_room();
             match self.here.next_pair(self.array) {
                 Some((key, value)) => return Some((key, value)),
                 None => {}

@@ -51,13 +51,13 @@ impl<K: Eq + Drop, V: Drop, L: LruList + Drop, const TYPE: u8> Arrays<K, V, L, T
             let Ok(()) = self.prepare_at(hasher, index) else {
                 return Err(Missing::Memory);
             };
-            self.room_of(Side::Current);
+            self.fact_room_of(Side::Current);
             if at.find_next(self.bucket_of(Side::Current, index)) {
                 return Ok(index);
             }
             index += 1;
         }
-        self.sound();
+        self.fact_sound();
         Err(Missing::Nothing)
     }
 
@@ -86,7 +86,7 @@ impl<K: Eq + Drop, V: Drop, L: LruList + Drop, const TYPE: u8> Arrays<K, V, L, T
             self.new }
     {
         *at = EntryPtr::null();
-        self.sound();
+        self.fact_sound();
         let now = self.len();
         if now == 0 {
             return Err(Missing::Nothing);
@@ -149,7 +149,7 @@ impl<K: Eq + Drop, V: Drop, L: LruList + Drop, const TYPE: u8> Arrays<K, V, L, T
         ensures departs { pairs_ahead (bucket_on self.old side index) at.old ≡ []
             → ShrinksThenPasses (λ to. to.1) side index self.old result self.new }
     {
-        self.room_of(side);
+        self.fact_room_of(side);
         if at.find_next(self.bucket_of(side, index)) {
             return Ok((side, index));
         }
@@ -174,7 +174,7 @@ impl<K: Eq + Drop, V: Drop, L: LruList + Drop, const TYPE: u8> Arrays<K, V, L, T
             visitor.new
             × (self.new ≡ arrays_with self.old Current index left) }
     {
-        self.room_of(Side::Current);
+        self.fact_room_of(Side::Current);
         let stops = visitor.visit(self.bucket_of_mut(Side::Current, index), flag);
         self.refresh_on(Side::Current, index);
         stops
@@ -185,7 +185,7 @@ impl<K: Eq + Drop, V: Drop, L: LruList + Drop, const TYPE: u8> Arrays<K, V, L, T
         requires within { index < length self.now.current }
         ensures { result ≡ length (pairs_in (bucket_on self.now Current index)) }
     {
-        self.room_of(Side::Current);
+        self.fact_room_of(Side::Current);
         self.bucket_of(Side::Current, index).len()
     }
 
@@ -203,7 +203,7 @@ impl<K: Eq + Drop, V: Drop, L: LruList + Drop, const TYPE: u8> Arrays<K, V, L, T
             (AnswersBy (λ key value answer. F.post keep.now key value answer)) TYPE
             (G.epoch_of generation.now) self.old index result self.new }
     {
-        self.room_of(Side::Current);
+        self.fact_room_of(Side::Current);
         let gone = retain_in(self.bucket_of_mut(Side::Current, index), keep, generation);
         self.refresh_on(Side::Current, index);
         gone

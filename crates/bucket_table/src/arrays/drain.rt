@@ -97,7 +97,7 @@ impl<K: Drop, V: Drop, L: LruList, const TYPE: u8> Arrays<K, V, L, TYPE> {
         if !self.has_row() {
             return None;
         }
-        self.row_room();
+        self.fact_row_room();
         let Some(_bucket) = self.next_slot(index, at) else {
             return None;
         };
@@ -149,7 +149,7 @@ impl<K, V, L: LruList, const TYPE: u8> Arrays<K, V, L, TYPE> {
         ensures arrays { self.new
             ≡ record self.old { current = []; linked = []; tickets = first_tickets 0 } }
     {
-        self.sound();
+        self.fact_sound();
         let none = Arrays::new(self.alloc, self.minimum, self.maximum);
         mem::replace(self, none)
     }
@@ -200,7 +200,7 @@ impl<K: Drop, V: Drop, L: LruList, const TYPE: u8> TableExtract<K, V, L, TYPE> {
         if !self.arrays.has_row() {
             return None;
         }
-        self.arrays.row_room();
+        self.arrays.fact_row_room();
         'slots: while let Some(_bucket) = self.arrays.next_slot(&mut self.index, &mut self.at) {
             self.most = one_less(self.most);
             match ask_at(&mut self.arrays, self.index, &mut self.at, pick) {
@@ -255,7 +255,7 @@ fn ask_at<K: Drop, V: Drop, L: LruList, F: FnMut(&K, &mut V) -> bool, const TYPE
         (λ state own before answer after last. F.step state own before answer after last)
         TYPE pick.old pair arrays.old index at.old result arrays.new at.new pick.new }
 {
-    arrays.row_room();
+    arrays.fact_row_room();
     let taken = ask_slot(arrays.nth_mut(index), at, pick, false, &());
     arrays.refresh_nth(index);
     taken

@@ -1,7 +1,7 @@
 //! Look-ups that change nothing, of a pair or of the slot that it is in.
 ghost use Rattle.std.specs.Prelude.{◌≡◌, ◌%◌, ◌+◌, ◌≤◌, None, IfSome, IfNone};
 ghost use Rattle.bucket_slots.specs.Places.{pair_lent};
-ghost use Rattle.bucket_slots.specs.Searching.{matching_len, pair_wanted};
+ghost use Rattle.bucket_slots.specs.Searching.{matching_len, pair_matched};
 ghost use Rattle.bucket_table.specs.Map.LookingUp.{home_bucket, lent_buckets, looked_up_len};
 ghost use Rattle.bucket_table.specs.Map.LookingUp.{pair_looked_up};
 ghost use Rattle.bucket_table.specs.Map.ByKey.{StandsAt};
@@ -29,11 +29,11 @@ impl<K, V, L: LruList, const TYPE: u8> Arrays<K, V, L, TYPE> {
     #[inline(always)]
     pub(crate) fn peek_by<P: KeyProbe<K>>(&self, hash: u64, probe: &mut P) -> Option<(&K, &V)>
         ensures first { pair_lent result
-            ≡ pair_looked_up (P.wants probe.old) hash
+            ≡ pair_looked_up (P.matches probe.old) hash
             self.now.linked self.now.current }
         ensures few { P.asked probe.new ≤ P.asked probe.old
             + looked_up_len hash self.now.linked self.now.current }
-        ensures fixed { P.wants probe.new ≡ P.wants probe.old }
+        ensures fixed { P.matches probe.new ≡ P.matches probe.old }
     {
         match &self.current {
             Some(current) => peek_arrays(self.linked_array(), current, hash, probe),
@@ -51,16 +51,16 @@ impl<K, V, L: LruList, const TYPE: u8> Arrays<K, V, L, TYPE> {
         probe: &mut P,
     ) -> Option<Spot<K, V, TYPE>>
         ensures found { IfSome result (λ spot.
-            StandsAt (P.wants probe.old) self.now spot.side spot.index spot.at) }
+            StandsAt (P.matches probe.old) self.now spot.side spot.index spot.at) }
         ensures side { IfSome result (λ spot. spot.side ≡ side) }
-        ensures absent { IfNone result (pair_wanted (P.wants probe.old) (hash % 256)
+        ensures absent { IfNone result (pair_matched (P.matches probe.old) (hash % 256)
             (home_bucket hash (buckets_on self.now side)) ≡ None) }
-        ensures fixed { P.wants probe.new ≡ P.wants probe.old }
+        ensures fixed { P.matches probe.new ≡ P.matches probe.old }
     {
         if self.len_on(side) == 0 {
             return None;
         }
-        self.room_of(side);
+        self.fact_room_of(side);
         let array = self.array_of(side);
         let index = array.bucket_index(hash);
         let at = array.bucket(index).get_entry_ptr_by(hash, probe);
@@ -84,10 +84,10 @@ pub fn peek_arrays<'a, K, V, L: LruList, const TYPE: u8, P: KeyProbe<K>>(
     probe: &mut P,
 ) -> Option<(&'a K, &'a V)>
     ensures first { pair_lent result
-        ≡ pair_looked_up (P.wants probe.old) hash (lent_buckets old.entry) current.now }
+        ≡ pair_looked_up (P.matches probe.old) hash (lent_buckets old.entry) current.now }
     ensures few { P.asked probe.new ≤ P.asked probe.old
         + looked_up_len hash (lent_buckets old.entry) current.now }
-    ensures fixed { P.wants probe.new ≡ P.wants probe.old }
+    ensures fixed { P.matches probe.new ≡ P.matches probe.old }
 {
     let Some(array) = old else {
         return peek_home(current, hash, probe);
@@ -106,11 +106,11 @@ fn peek_home<'a, K, V, L: LruList, const TYPE: u8, P: KeyProbe<K>>(
     probe: &mut P,
 ) -> Option<(&'a K, &'a V)>
     ensures pair { pair_lent result
-        ≡ pair_wanted (P.wants probe.old) (hash % 256) (home_bucket hash array.now) }
+        ≡ pair_matched (P.matches probe.old) (hash % 256) (home_bucket hash array.now) }
     ensures few { P.asked probe.new ≤ P.asked probe.old
         + matching_len (hash % 256) (home_bucket hash array.now) }
-    ensures fixed { P.wants probe.new ≡ P.wants probe.old }
+    ensures fixed { P.matches probe.new ≡ P.matches probe.old }
 {
-    array.room();
+    array.fact_room();
     array.peek_by(array.bucket_index(hash), hash, probe)
 }

@@ -140,11 +140,11 @@ impl<K, V, L: LruList, const TYPE: u8> OldArray<K, V, L, TYPE> {
     }
 
     /// States that the tickets are within their bounds; does nothing at run time.
-    pub(super) fn sound(&self)
+    pub(super) fn fact_sound(&self)
         ensures { IsTicketState self.now.tickets }
     {
         if let Some(rehash) = &self.rehash {
-            rehash.tickets.sound();
+            rehash.tickets.fact_sound();
         }
     }
 
@@ -206,7 +206,7 @@ fn is_unit_killed<K, V, L: LruList, const TYPE: u8>(
     requires { unit < 2 ^ 53 }
     ensures { IsTrue result ↔ IsUnitKilled (killed_flags array.now) unit }
 {
-    array.room();
+    array.fact_room();
     let start = (unit * REHASHING_UNIT_LEN).min(array.len());
     let end = (unit * REHASHING_UNIT_LEN + REHASHING_UNIT_LEN).min(array.len());
     for i in start..end {

@@ -74,7 +74,7 @@ impl<'a, K, V, L: LruList, const TYPE: u8> Iterator
         if !self.arrays.has_row_or(self.left != 0) {
             return None;
         }
-        self.arrays.row_room();
+        self.arrays.fact_row_room();
         let found = self
             .arrays
             .own_left(&mut self.index, &mut self.at, self.here, self.left);
@@ -111,7 +111,7 @@ impl<'a, K, V, L: LruList, const TYPE: u8> ArraysPairs<'a, K, V, L, TYPE, &'a Ki
         if !self.arrays.has_row() {
             return None;
         }
-        self.arrays.row_room();
+        self.arrays.fact_row_room();
         let Some(bucket) = self.arrays.next_slot(&mut self.index, &mut self.at) else {
             return None;
         };

@@ -9,7 +9,7 @@ ghost use Rattle.bucket_slots.specs.Homes.{IsInRange};
 ghost use Rattle.bucket_table.specs.Views.Sides.{buckets_on};
 ghost use Rattle.bucket_table.specs.Views.Keeping.{KeepsArrays};
 ghost use Rattle.bucket_table.specs.Rehash.Finishing.{Finishes, units_left};
-ghost use Rattle.bucket_table.specs.Rehash.Units.{KillsOnly, SpendsSome, WantsMemory, WorksUnit};
+ghost use Rattle.bucket_table.specs.Rehash.Units.{KillsOnly, SpendsSome, NeedsMemory, WorksUnit};
 ghost use Rattle.bucket_table.specs.Rehash.Units.{WorksUnits};
 
 use super::old_array::OldArray;
@@ -35,7 +35,7 @@ impl<K, V, L: LruList, const TYPE: u8> Arrays<K, V, L, TYPE> {
     pub(crate) fn reset_tickets(&mut self)
         ensures { self.new ≡ unopened self.old }
     {
-        self.sound();
+        self.fact_sound();
         self.linked.reset();
     }
 
@@ -94,7 +94,7 @@ impl<K: Eq + Drop, V: Drop, L: LruList + Drop, const TYPE: u8> Arrays<K, V, L, T
         ensures none { IfNone result (self.new ≡ self.old) }
         ensures finishes { self.old.tickets.open_units ≡ [] → Finishes self.old result self.new }
     {
-        self.sound();
+        self.fact_sound();
         let Some(ticket) = self.start_incremental_rehash() else {
             return None;
         };
@@ -113,7 +113,7 @@ impl<K: Eq + Drop, V: Drop, L: LruList + Drop, const TYPE: u8> Arrays<K, V, L, T
         ensures only { KillsOnly (IsInRange (64 * unit) (64 * unit + 64)) self.old.linked
             self.new.linked }
         ensures wanted { result ≡ false
-            → WantsMemory (IsInRange (64 * unit) (64 * unit + 64)) self.old self.new }
+            → NeedsMemory (IsInRange (64 * unit) (64 * unit + 64)) self.old self.new }
     {
         let len = self.old_len();
         let start = unit * REHASHING_UNIT_LEN;
@@ -166,7 +166,7 @@ impl<K: Eq + Drop, V: Drop, L: LruList + Drop, const TYPE: u8> Arrays<K, V, L, T
         ensures none_open { self.new.tickets.open_units ≡ [] }
         ensures gone { IfOk result (λ count. length self.new.linked ≡ 0) }
         ensures counted { IfOk result (λ count. count ≡ units_left self.old) }
-        ensures wanted { OnErr result (WantsMemory (λ i. Unit {0}) self.old self.new) }
+        ensures wanted { OnErr result (NeedsMemory (λ i. Unit {0}) self.old self.new) }
         ensures units { OnErr result (WorksUnits
             (self.new.tickets.position + 1 - self.old.tickets.position)
             (λ index. ⊥) self.old self.new) }
@@ -199,7 +199,7 @@ impl<K: Eq + Drop, V: Drop, L: LruList + Drop, const TYPE: u8> Arrays<K, V, L, T
         ensures placed { ArePlaced (H.hash_of hasher.now) self.new }
         ensures rehashed { RehashesTo capacity self.old result self.new }
     {
-        self.sound();
+        self.fact_sound();
         self.reset_tickets();
         self.finish_rehash(hasher)?;
         if self.len() == len_for(capacity) {

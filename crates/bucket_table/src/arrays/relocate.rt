@@ -11,7 +11,7 @@ ghost use Rattle.bucket_table.specs.Layout.Landings.{ListsArrivals, MoveInOrder,
 ghost use Rattle.bucket_table.specs.Layout.Landings.{landings_with};
 ghost use Rattle.bucket_table.specs.Rehash.Rehashing.{IsUnmoved, RelocatesAt};
 ghost use Rattle.bucket_table.specs.Rehash.Units.{KillsOnly, NeedsNoMemory, SpendsSome};
-ghost use Rattle.bucket_table.specs.Rehash.Units.{WantsMemory, WorksRange};
+ghost use Rattle.bucket_table.specs.Rehash.Units.{NeedsMemory, WorksRange};
 ghost use Rattle.std.specs.List.{All};
 ghost use Rattle.bucket_slots.specs.BucketView.{BucketView, pairs_in, slot_in};
 ghost use Rattle.bucket_slots.specs.Recency.{IsRecencyOrder};
@@ -73,7 +73,7 @@ impl<K: Eq + Drop, V: Drop, L: LruList + Drop, const TYPE: u8> Arrays<K, V, L, T
         ensures worked { WorksRange start end result self.old self.new }
         ensures spends { SpendsSome self.old.linked self.new.linked }
         ensures only { KillsOnly (IsInRange start end) self.old.linked self.new.linked }
-        ensures wanted { result ≡ false → WantsMemory (IsInRange start end) self.old self.new }
+        ensures wanted { result ≡ false → NeedsMemory (IsInRange start end) self.old self.new }
     {
         'buckets: for index in start..end {
             let Ok(()) = self.relocate(hasher, index) else {
@@ -123,7 +123,7 @@ pub(crate) fn relocate<K: Eq + Drop, V: Drop, H: KeyHash<K>, L: LruList, const T
         (CarriesRecency (bucket_at linked.old index) current.old current.new) }
     ensures alive { OnErr result ((bucket_at linked.old index).killed ≡ false) }
 {
-    current.room();
+    current.fact_room();
     let from = linked.len();
     let to = current.len();
     let (start, end) = from_index_to_range(from, to, index);
@@ -131,7 +131,7 @@ pub(crate) fn relocate<K: Eq + Drop, V: Drop, H: KeyHash<K>, L: LruList, const T
         return Ok(());
     }
     let source = linked.bucket_mut(index);
-    source.sound();
+    source.fact_sound();
     if to < from || BUCKET_LEN < source.len() {
         if let Err(refused) = reserve_targets(alloc, hasher, current, source, start, end) {
             return Err(refused);
@@ -216,7 +216,7 @@ fn reserve_each<K: Drop, V: Drop, L: LruList, const TYPE: u8>(
     ensures kept { KeepsEntries current.old current.new }
     ensures others { KeepsOthers start (start + length counts.now) current.old current.new }
 {
-    current.room();
+    current.fact_room();
     let _buckets = current.len();
     'counts: for k in 0..counts.len() {
         if let Err(refused) = current.bucket_mut(start + k).reserve_slots(counts[k]) {
@@ -244,31 +244,31 @@ fn carry_pairs<K: Eq + Drop, V: Drop, H: KeyHash<K>, L: LruList, const TYPE: u8>
     ensures emptied { pairs_in source.new ≡ [] }
     ensures recency { CarriesRecency source.old current.old current.new }
 {
-    source.sound();
+    source.fact_sound();
     let (order, len) = source.take_lru();
     if len == 0 {
         current.spread_own(source, start, end, &|key: &K| hasher.hash_one(key));
-        move_pairs(hasher, current, source, start, end, &mut []);
+        move_pairs(hasher, current, source, (start, end), &mut []);
         return;
     }
     let mut landings = [None; BUCKET_LEN];
-    move_pairs(hasher, current, source, start, end, &mut landings);
+    move_pairs(hasher, current, source, (start, end), &mut landings);
     append_arrivals(current, &order[..len], &landings);
 }
 
 /// Moves each pair of a bucket to its home in an array that has room for it, which is one of the
-/// buckets from `start` up to but not including `end`. Records the new place of each own slot's
-/// pair in `landings`, as far as it has room. A pair that lands in a chain is not recorded.
+/// buckets from the first number of `targets` up to but not including the second. Records the new
+/// place of each own slot's pair in `landings`, as far as it has room. A pair that lands in a chain
+/// is not recorded.
 #[tactic(auto, using(crate::proofs::Walking::Retaining::next_live))]
 fn move_pairs<K: Eq + Drop, V: Drop, H: KeyHash<K>, L: LruList, const TYPE: u8>(
     hasher: &H,
     current: &mut BucketArray<K, V, L, TYPE>,
     source: &mut Bucket<K, V, L, TYPE>,
-    start: usize,
-    end: usize,
+    targets: (usize, usize),
     landings: &mut [Option<Landing>],
 )
-    requires ready { CanMoveInto (H.hash_of hasher.now) start end source.old current.old }
+    requires ready { CanMoveInto (H.hash_of hasher.now) targets.0 targets.1 source.old current.old }
     requires unsaid { (slot : ℕ) → landing_of landings.old slot ≡ None }
     ensures moved { MovesInto (H.hash_of hasher.now) source.old current.old source.new current.new }
     ensures homes { AreHome (H.hash_of hasher.now) current.new }
@@ -280,11 +280,11 @@ fn move_pairs<K: Eq + Drop, V: Drop, H: KeyHash<K>, L: LruList, const TYPE: u8>(
 {
     let mut at = EntryPtr::null();
     'own: while at.find_next_here(source) {
-        move_pair(hasher, current, source, &mut at, start, end, landings);
+        move_pair(hasher, current, source, &mut at, targets, landings);
         at = EntryPtr::null();
     }
     'pairs: while at.find_next(source) {
-        move_pair(hasher, current, source, &mut at, start, end, landings);
+        move_pair(hasher, current, source, &mut at, targets, landings);
     }
 }
 
@@ -297,30 +297,29 @@ fn move_pair<K: Eq + Drop, V: Drop, H: KeyHash<K>, L: LruList, const TYPE: u8>(
     current: &mut BucketArray<K, V, L, TYPE>,
     source: &mut Bucket<K, V, L, TYPE>,
     at: &mut EntryPtr<K, V, TYPE>,
-    start: usize,
-    end: usize,
+    targets: (usize, usize),
     landings: &mut [Option<Landing>],
 )
-    requires ready { CanMoveInto (H.hash_of hasher.now) start end source.old current.old }
+    requires ready { CanMoveInto (H.hash_of hasher.now) targets.0 targets.1 source.old current.old }
     requires live_slot { IsTrue (is_live (slot_in source.old at.old)) }
     ensures moved { MovesHome TYPE (H.hash_of hasher.now) at.old source.old current.old landings.old
         source.new current.new landings.new }
     ensures pointer { at.new ≡ at.old }
 {
-    source.sound();
-    let (home, hash) = way_of(hasher, current, source, at, start, end);
+    source.fact_sound();
+    let (home, hash) = destination_of(hasher, current, source, at, targets);
     let target = current.bucket_mut(home);
-    target.sound();
+    target.fact_sound();
     let Ok(to) = target.extract_from(hash, source, at) else {
         unreachable!()
     };
-    say_landing(landings, at, home, &to);
+    record_landing(landings, at, home, &to);
 }
 
 /// Records in `landings`, if there is room, where a pair landed that moved from an own slot to
 /// bucket `home`, if that is an own slot.
 #[inline(always)]
-fn say_landing<K, V, const TYPE: u8>(
+fn record_landing<K, V, const TYPE: u8>(
     landings: &mut [Option<Landing>],
     from: &EntryPtr<K, V, TYPE>,
     home: usize,
@@ -348,7 +347,7 @@ fn append_arrivals<K: Eq + Drop, V: Drop, L: LruList, const TYPE: u8>(
     requires keeps { 0 < length order.now → L.KEEPS ≡ true }
     ensures { ListsArrivals landings.now order.now current.old current.new }
 {
-    current.room();
+    current.fact_room();
     'order: for slot in order {
         if let Some(landing) = landings[*slot as usize] {
             let at = EntryPtr::own_slot(landing.slot);
@@ -359,23 +358,24 @@ fn append_arrivals<K: Eq + Drop, V: Drop, L: LruList, const TYPE: u8>(
 }
 
 /// Returns the index of the home of a slot's pair in an array, and a number whose low byte is the
-/// pair's fingerprint. If `start` is the only target, the stored fingerprint is enough; otherwise
-/// the key is hashed again.
+/// pair's fingerprint. If there is one target, the stored fingerprint is enough; otherwise the key
+/// is hashed again.
 #[inline(always)]
-fn way_of<K: Eq, V, H: KeyHash<K>, L: LruList, const TYPE: u8>(
+fn destination_of<K: Eq, V, H: KeyHash<K>, L: LruList, const TYPE: u8>(
     hasher: &H,
     current: &BucketArray<K, V, L, TYPE>,
     source: &Bucket<K, V, L, TYPE>,
     at: &EntryPtr<K, V, TYPE>,
-    start: usize,
-    end: usize,
+    targets: (usize, usize),
 ) -> (usize, u64)
-    requires ready { CanMoveInto (H.hash_of hasher.now) start end source.now current.now }
+    requires ready { CanMoveInto (H.hash_of hasher.now) targets.0 targets.1 source.now
+        current.now }
     requires occupied { is_free (slot_in source.now at.now) ≡ false }
     ensures { (pair : K × V) → live_pair (slot_in source.now at.now) ≡ Some pair
         → IsWay (H.hash_of hasher.now) (length current.now) pair result.0 result.1 }
 {
     let _buckets = current.len();
+    let (start, end) = targets;
     if end.saturating_sub(start) == 1 {
         return (start, u64::from(at.partial_hash(source)));
     }

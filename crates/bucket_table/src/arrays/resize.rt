@@ -109,7 +109,7 @@ fn plan_by_middle<K, V, L: LruList, const TYPE: u8>(
 fn is_empty<K, V, L: LruList, const TYPE: u8>(array: &BucketArray<K, V, L, TYPE>) -> bool
     ensures { IsTrue result ↔ All (λ count. count ≡ 0) (live_counts array.now) }
 {
-    array.room();
+    array.fact_room();
     for index in 0..array.len() {
         if array.bucket(index).len() != 0 {
             return false;
@@ -176,7 +176,7 @@ impl<K: Drop, V: Drop, L: LruList + Drop, const TYPE: u8> Arrays<K, V, L, TYPE> 
         ensures kept { Keeps self.old self.new }
         ensures placed { (hash : K → ℕ) → ArePlaced hash self.old → ArePlaced hash self.new }
     {
-        self.sound();
+        self.fact_sound();
         let len = self.len();
         if pairs / (BUCKET_LEN / 8) >= len || !self.asks_shrinking(index) {
             return;
@@ -205,7 +205,7 @@ impl<K: Drop, V: Drop, L: LruList + Drop, const TYPE: u8> Arrays<K, V, L, TYPE> 
         if self.has_current() {
             return Ok(());
         }
-        self.sound();
+        self.fact_sound();
         self.make_first_array(self.minimum)
     }
 
@@ -264,7 +264,7 @@ impl<K: Drop, V: Drop, L: LruList + Drop, const TYPE: u8> Arrays<K, V, L, TYPE> 
         ensures pushed { OnOk result (IsPushed capacity self.old self.new) }
         ensures unchanged { OnErr result (self.new ≡ self.old) }
     {
-        self.sound();
+        self.fact_sound();
         if self.has_current() {
             self.push_array(capacity)
         } else {
@@ -281,7 +281,7 @@ impl<K: Drop, V: Drop, L: LruList + Drop, const TYPE: u8> Arrays<K, V, L, TYPE> 
         ensures kept { Keeps (with_minimum self.old (self.old.minimum + result)) self.new }
         ensures placed { (hash : K → ℕ) → ArePlaced hash self.old → ArePlaced hash self.new }
     {
-        self.sound();
+        self.fact_sound();
         if additional > self.maximum - self.minimum {
             return 0;
         }
@@ -298,7 +298,7 @@ impl<K: Drop, V: Drop, L: LruList + Drop, const TYPE: u8> Arrays<K, V, L, TYPE> 
         ensures kept { Keeps (with_minimum self.old (self.old.minimum - result)) self.new }
         ensures placed { (hash : K → ℕ) → ArePlaced hash self.old → ArePlaced hash self.new }
     {
-        self.sound();
+        self.fact_sound();
         if released > self.minimum {
             return 0;
         }
@@ -343,7 +343,7 @@ impl<K: Drop, V: Drop, L: LruList + Drop, const TYPE: u8> Arrays<K, V, L, TYPE> 
         ensures pushed { OnOk result (IsPushed capacity self.old self.new) }
         ensures unchanged { OnErr result (self.new ≡ self.old) }
     {
-        self.sound();
+        self.fact_sound();
         let Ok(tickets) = Tickets::new(self.alloc, self.len()) else {
             return Err(AllocError);
         };

@@ -34,7 +34,7 @@ impl<K, V, L: LruList, const TYPE: u8> Arrays<K, V, L, TYPE> {
         ensures some { IsTrue result → 0 < length (row_of self.now) }
         ensures none { result ≡ false → row_of self.now ≡ [] }
     {
-        self.sound();
+        self.fact_sound();
         self.has_current()
     }
 
@@ -51,14 +51,14 @@ impl<K, V, L: LruList, const TYPE: u8> Arrays<K, V, L, TYPE> {
     /// States that a bucket fits in memory; does nothing at run time. Generic code calls it before
     /// it reads a bucket.
     #[inline(always)]
-    pub(crate) fn row_room(&self)
+    pub(crate) fn fact_row_room(&self)
         requires { 0 < length (row_of self.now) }
         ensures { BucketFits K.row V.row L.row TYPE.row
             (record { KEEPS = L.KEEPS; listed = L.listed; IsTail = L.IsTail }) L.Default }
     {
-        self.sound();
+        self.fact_sound();
         if let Some(array) = &self.current {
-            array.room();
+            array.fact_room();
         }
     }
 
@@ -209,11 +209,11 @@ impl<K, V, L: LruList, const TYPE: u8> Arrays<K, V, L, TYPE> {
         if !self.has_row() {
             return 0;
         }
-        self.row_room();
+        self.fact_row_room();
         let mut live: usize = 0;
         let mut index = 0;
         while let Some(bucket) = self.nth(index) {
-            bucket.sound();
+            bucket.fact_sound();
             live = live.saturating_add(bucket.len());
             index += 1;
         }

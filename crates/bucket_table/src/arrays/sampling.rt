@@ -13,10 +13,10 @@ ghost use Rattle.bucket_slots.specs.Homes.{IsHome};
 ghost use Rattle.bucket_table.specs.Map.Counting.{counted_to};
 ghost use Rattle.bucket_slots.specs.Sizing.{IsLength};
 ghost use Rattle.bucket_table.specs.Resize.Overfull.{GrowsIfOverfull, HasFullHome, MaySplit};
-ghost use Rattle.bucket_table.specs.Resize.Overfull.{TriesSplit};
+ghost use Rattle.bucket_table.specs.Resize.Overfull.{IsOverfullBucket, TriesSplit};
 
 use super::{Arrays, Side};
-use bucket_slots::bucket::BUCKET_LEN;
+use bucket_slots::bucket::{BUCKET_LEN, Bucket};
 use bucket_slots::bucket_array::BucketArray;
 use bucket_slots::lru::LruList;
 use std::alloc::AllocError;
@@ -45,7 +45,7 @@ pub(crate) fn live_slots<K, V, L: LruList, const TYPE: u8>(
     requires within { start + size ≤ length array.now }
     ensures { result ≡ min (counted (live_counts array.now) start size) (2 ^ 64 - 1) }
 {
-    array.room();
+    array.fact_room();
     let _len = array.len();
     let mut live: usize = 0;
     for offset in 0..size {
@@ -79,7 +79,7 @@ impl<K: Drop, V: Drop, L: LruList + Drop, const TYPE: u8> Arrays<K, V, L, TYPE> 
         ensures kept { Keeps self.old self.new }
         ensures placed { (hash : K → ℕ) → ArePlaced hash self.old → ArePlaced hash self.new }
     {
-        self.room_of(side);
+        self.fact_room_of(side);
         let left = self.bucket_of(side, index).len();
         self.shrink_left(side, index, left, None);
     }
@@ -195,8 +195,7 @@ impl<K, V, L: LruList, const TYPE: u8> Arrays<K, V, L, TYPE> {
         is_deserted(array, index)
     }
 
-    /// Returns whether there is no old array, and the home of a hash has enough pairs to be
-    /// overfull.
+    /// Returns whether there is no old array, and the home of a hash is an overfull bucket.
     #[inline(always)]
     pub(crate) fn has_full_home(&self, hash: u64) -> bool
         ensures { IsTrue result ↔ HasFullHome hash self.now }
@@ -208,8 +207,8 @@ impl<K, V, L: LruList, const TYPE: u8> Arrays<K, V, L, TYPE> {
             return false;
         }
         let index = self.home(hash);
-        self.room_of(Side::Current);
-        self.bucket_of(Side::Current, index).len() >= OVERFULL_LEN
+        self.fact_room_of(Side::Current);
+        is_overfull(self.bucket_of(Side::Current, index))
     }
 
     /// Returns whether there is no old array, the home of a hash has as many pairs as own slots,
@@ -225,7 +224,7 @@ impl<K, V, L: LruList, const TYPE: u8> Arrays<K, V, L, TYPE> {
             return false;
         }
         let index = self.home(hash);
-        self.room_of(Side::Current);
+        self.fact_room_of(Side::Current);
         if self.bucket_of(Side::Current, index).len() != BUCKET_LEN {
             return false;
         }
@@ -268,7 +267,25 @@ fn is_deserted<K, V, L: LruList, const TYPE: u8>(
     BucketArray::<K, V, L, TYPE>::need_shrink(size * BUCKET_LEN, live)
 }
 
+/// Returns whether a bucket has far more pairs than own slots, or as many and a long chain, whose
+/// slots may be tombstones.
+fn is_overfull<K, V, L: LruList, const TYPE: u8>(bucket: &Bucket<K, V, L, TYPE>) -> bool
+    ensures { IsTrue result ↔ IsOverfullBucket bucket.now }
+{
+    let live = bucket.len();
+    if live >= OVERFULL_LEN {
+        return true;
+    }
+    if live < BUCKET_LEN {
+        return false;
+    }
+    bucket.chain_len() >= LONG_CHAIN_LEN
+}
+
 /// The number of live pairs that makes a bucket overfull: one and a half for each own slot.
 const OVERFULL_LEN: usize = BUCKET_LEN / 2 * 3;
+
+/// The number of blocks that makes a chain long.
+const LONG_CHAIN_LEN: usize = 8;
 
 const _: () = prove!(OVERFULL_LEN == 48);

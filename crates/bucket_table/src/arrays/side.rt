@@ -1,20 +1,18 @@
 //! One of the two arrays of a table, and loans of its buckets, for reading or for writing.
-ghost use Rattle.std.specs.Prelude.{◌≡◌, ◌%◌, ◌<◌, IsTrue, Some, length, slice_set};
+ghost use Rattle.std.specs.Prelude.{◌≡◌, ◌%◌, ◌<◌, IsTrue, Some, length};
 ghost use Rattle.std.specs.Borrow.{sem};
 ghost use Rattle.bucket_slots.specs.ArrayRoom.{BucketFits};
 ghost use Rattle.bucket_slots.specs.ArrayView.{bucket_at};
 ghost use Rattle.bucket_slots.specs.BucketView.{slot_in};
 ghost use Rattle.bucket_slots.specs.Slots.{is_live, live_pair};
-ghost use Rattle.bucket_table.specs.Map.ByKey.{InsertsIn};
 ghost use Rattle.bucket_table.specs.Views.ArrayLoan.{LendsArrayOf};
 ghost use Rattle.bucket_table.specs.Views.ArraysView.{list_of};
 ghost use Rattle.bucket_table.specs.Views.Sides.{bucket_on, buckets_on, arrays_with};
 ghost use Rattle.bucket_slots.specs.Replacing.{slots_replaced};
 
 use super::Arrays;
-use crate::hash_table::NotInserted;
-use bucket_slots::bucket::{Bucket, CACHE, EntryPtr, Generation};
-use bucket_slots::bucket_array::{BucketArray, NotPut};
+use bucket_slots::bucket::{Bucket, CACHE, EntryPtr};
+use bucket_slots::bucket_array::BucketArray;
 use bucket_slots::lru::LruList;
 
 /// One of a table's two arrays.
@@ -105,12 +103,12 @@ impl<K, V, L: LruList, const TYPE: u8> Arrays<K, V, L, TYPE> {
 
     /// States that a bucket fits in memory; does nothing at run time.
     #[inline(always)]
-    pub(crate) fn room_of(&self, side: Side)
+    pub(crate) fn fact_room_of(&self, side: Side)
         requires { 0 < length (buckets_on self.now side) }
         ensures { BucketFits K.row V.row L.row TYPE.row
             (record { KEEPS = L.KEEPS; listed = L.listed; IsTail = L.IsTail }) L.Default }
     {
-        self.array_of(side).room();
+        self.array_of(side).fact_room();
     }
 }
 
@@ -132,28 +130,6 @@ pub(super) fn current_in<K, V, L: LruList, const TYPE: u8>(
     }
 }
 
-/// Inserts a pair into a bucket of an array, if no live slot there has an equal key.
-#[inline(always)]
-pub(super) fn insert_in<K: Eq + Drop, V: Drop, L: LruList, G: Generation, const TYPE: u8>(
-    array: &mut BucketArray<K, V, L, TYPE>,
-    index: usize,
-    hash: u64,
-    key: K,
-    value: V,
-    generation: &G,
-) -> Result<(), NotInserted<K, V>>
-    requires { index < length array.old }
-    ensures { InsertsIn K.eq key value (hash % 256) TYPE (G.keeps generation.now)
-        (bucket_at array.old index) result
-        (λ left. array.new ≡ slice_set array.old index left) }
-{
-    match array.insert_absent(index, hash, key, value, generation) {
-        Ok(()) => Ok(()),
-        Err(NotPut::Present(key, value)) => Err(NotInserted::Present(key, value)),
-        Err(NotPut::Memory(key, value)) => Err(NotInserted::Memory(key, value)),
-    }
-}
-
 impl<K: Drop, V: Drop, L: LruList, const TYPE: u8> Arrays<K, V, L, TYPE> {
     /// Replaces the pair in a live slot by another one, under `hash`, and returns the previous
     /// pair.
@@ -171,7 +147,7 @@ impl<K: Drop, V: Drop, L: LruList, const TYPE: u8> Arrays<K, V, L, TYPE> {
         ensures arrays { self.new ≡ arrays_with self.old side index
             (slots_replaced (bucket_on self.old side index) at.now pair (hash % 256)) }
     {
-        self.room_of(side);
+        self.fact_room_of(side);
         let earlier = self.bucket_of_mut(side, index).replace(at, hash, pair);
         self.refresh_on(side, index);
         earlier

@@ -15,7 +15,7 @@ ghost use Rattle.bucket_table.specs.Resize.Asking.{RemovesAndShrinks};
 ghost use Rattle.bucket_table.specs.Views.Sides.{arrays_with, bucket_on, buckets_on};
 ghost use Rattle.bucket_table.specs.Views.Keeping.{Keeps};
 
-use super::side::{current_in, insert_in};
+use super::side::current_in;
 use super::{Arrays, Side};
 use crate::hash_table::NotInserted;
 use bucket_slots::bucket::{CACHE, EntryPtr, Generation, INDEX, KeyProbe};
@@ -31,7 +31,7 @@ impl<K, V, L: LruList, const TYPE: u8> Arrays<K, V, L, TYPE> {
         ensures { live_pair (slot_in (bucket_on self.now side index) at.now)
             ≡ Some (result.0.now, result.1.now) }
     {
-        self.room_of(side);
+        self.fact_room_of(side);
         self.bucket_of(side, index).entry(at)
     }
 
@@ -88,7 +88,7 @@ impl<K, V, L: LruList, const TYPE: u8> Arrays<K, V, L, TYPE> {
             ≡ pairs_ahead (bucket_on self.old side index) at.old }
         ensures left { result ≡ length (pairs_in (bucket_on self.new side index)) }
     {
-        self.room_of(side);
+        self.fact_room_of(side);
         let bucket = self.bucket_of_mut(side, index);
         bucket.mark_removed(at, generation);
         let left = bucket.len();
@@ -105,25 +105,25 @@ impl<K: Drop, V: Drop, L: LruList, const TYPE: u8> Arrays<K, V, L, TYPE> {
         side: Side,
         index: usize,
         hash: u64,
-        key: K,
-        value: V,
+        pair: (K, V),
         generation: &G,
     ) -> Result<(), NotInserted<K, V>>
     where
         K: Eq,
         requires { index < length (buckets_on self.old side) }
-        ensures { InsertsIn K.eq key value (hash % 256) TYPE (G.keeps generation.now)
+        ensures { InsertsIn K.eq pair.0 pair.1 (hash % 256) TYPE (G.keeps generation.now)
             (bucket_on self.old side index) result
             (λ left. self.new ≡ arrays_with self.old side index left) }
     {
+        let (key, value) = pair;
         match side {
             Side::Current => {
                 let array = current_in(&mut self.current);
-                insert_in(array, index, hash, key, value, generation)
+                array.insert_absent(index, hash, key, value, generation)
             }
             Side::Old => {
                 let array = self.linked.array_mut();
-                insert_in(array, index, hash, key, value, generation)
+                array.insert_absent(index, hash, key, value, generation)
             }
         }
     }
@@ -135,18 +135,18 @@ impl<K: Drop, V: Drop, L: LruList, const TYPE: u8> Arrays<K, V, L, TYPE> {
         side: Side,
         index: usize,
         hash: u64,
-        key: K,
-        value: V,
+        pair: (K, V),
         generation: &G,
     ) -> Result<Option<V>, (K, V)>
     where
         K: Eq,
         requires { index < length (buckets_on self.old side) }
         ensures { (left : BucketView K V)
-            × UpsertsIn K.eq key value (hash % 256) TYPE (G.keeps generation.now)
+            × UpsertsIn K.eq pair.0 pair.1 (hash % 256) TYPE (G.keeps generation.now)
             (bucket_on self.old side index) result left
             × (self.new ≡ arrays_with self.old side index left) }
     {
+        let (key, value) = pair;
         match side {
             Side::Current => {
                 let array = current_in(&mut self.current);
@@ -171,9 +171,9 @@ impl<K: Drop, V: Drop, L: LruList, const TYPE: u8> Arrays<K, V, L, TYPE> {
     ) -> Option<((K, V), usize)>
         requires not_index { TYPE ≢ INDEX }
         requires within { index < length (buckets_on self.old side) }
-        ensures taken { TakesHome (P.wants probe.old) (hash % 256) side index self.old result
+        ensures taken { TakesHome (P.matches probe.old) (hash % 256) side index self.old result
             self.new }
-        ensures fixed { P.wants probe.new ≡ P.wants probe.old }
+        ensures fixed { P.matches probe.new ≡ P.matches probe.old }
     {
         match side {
             Side::Current => current_in(&mut self.current).take_by(index, hash, probe),
@@ -202,7 +202,7 @@ impl<K: Drop, V: Drop, L: LruList, const TYPE: u8> Arrays<K, V, L, TYPE> {
             ≡ pairs_ahead (bucket_on self.old side index) at.old }
         ensures left { result.1 ≡ length (pairs_in (bucket_on self.new side index)) }
     {
-        self.room_of(side);
+        self.fact_room_of(side);
         let bucket = self.bucket_of_mut(side, index);
         let pair = bucket.remove(at);
         let left = bucket.len();
@@ -278,13 +278,13 @@ impl<K: Drop, V: Drop, L: LruList + Drop, const TYPE: u8> Arrays<K, V, L, TYPE> 
         pairs: Option<usize>,
     ) -> Option<(K, V)>
         requires not_index { TYPE ≢ INDEX }
-        ensures taken { TakesOn pairs (P.wants probe.old) hash side self.old result self.new }
-        ensures fixed { P.wants probe.new ≡ P.wants probe.old }
+        ensures taken { TakesOn pairs (P.matches probe.old) hash side self.old result self.new }
+        ensures fixed { P.matches probe.new ≡ P.matches probe.old }
     {
         if self.len_on(side) == 0 {
             return None;
         }
-        self.room_of(side);
+        self.fact_room_of(side);
         let index = self.array_of(side).bucket_index(hash);
         let Some((pair, left)) = self.take_home(side, index, hash, probe) else {
             return None;
@@ -305,8 +305,8 @@ impl<K: Drop, V: Drop, L: LruList + Drop, const TYPE: u8> Arrays<K, V, L, TYPE> 
         pairs: Option<usize>,
     ) -> Option<(K, V)>
         requires not_index { TYPE ≢ INDEX }
-        ensures taken { TakesOn pairs (P.wants probe.old) hash side self.old result self.new }
-        ensures fixed { P.wants probe.new ≡ P.wants probe.old }
+        ensures taken { TakesOn pairs (P.matches probe.old) hash side self.old result self.new }
+        ensures fixed { P.matches probe.new ≡ P.matches probe.old }
     {
         match self.search_on(side, hash, probe) {
             Some(mut spot) => Some(self.take_at(spot.side, spot.index, &mut spot.at, pairs)),

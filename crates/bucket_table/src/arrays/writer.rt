@@ -5,8 +5,8 @@ ghost use Rattle.std.specs.Prelude.{IfNone, IfOk, IfSome, IsTrue};
 ghost use Rattle.bucket_slots.specs.Homes.{IsHome};
 ghost use Rattle.bucket_table.specs.Views.ArraysView.{ArePlaced, AreSourcesKilled, IsSource};
 ghost use Rattle.bucket_table.specs.Views.Keeping.{KeepsArrays, Keeps};
-ghost use Rattle.bucket_table.specs.Map.Preparing.{HomeWantsMemory, IsMissing, IsReady};
-ghost use Rattle.bucket_table.specs.Rehash.Units.{WantsMemory, WorksUnits};
+ghost use Rattle.bucket_table.specs.Map.Preparing.{HomeNeedsMemory, IsMissing, IsReady};
+ghost use Rattle.bucket_table.specs.Rehash.Units.{NeedsMemory, WorksUnits};
 ghost use Rattle.bucket_table.specs.Resize.Asking.{ResizesIf};
 ghost use Rattle.bucket_table.specs.Map.Finding.{FindsNone, ReadiesThenGrows};
 ghost use Rattle.bucket_table.specs.Map.Free.{IsRoomy, MayLockAtOnce};
@@ -34,7 +34,7 @@ impl<K: Eq + Drop, V: Drop, L: LruList + Drop, const TYPE: u8> Arrays<K, V, L, T
         ensures placed { ArePlaced (H.hash_of hasher.now) self.new }
         ensures kept { KeepsArrays self.old self.new }
         ensures ready { OnOk result (IsReady self.new hash) }
-        ensures wanted { result ≡ Err Missing.Memory → HomeWantsMemory hash self.old self.new }
+        ensures wanted { result ≡ Err Missing.Memory → HomeNeedsMemory hash self.old self.new }
         ensures units { WorksUnits 1 (IsHome (length self.new.current) hash) self.old self.new }
         ensures alone { length self.old.linked ≡ 0 → self.new ≡ self.old }
         ensures missing { IfErr result (λ missing. IsMissing missing self.old) }
@@ -68,7 +68,7 @@ impl<K: Eq + Drop, V: Drop, L: LruList + Drop, const TYPE: u8> Arrays<K, V, L, T
         ensures placed { ArePlaced (H.hash_of hasher.now) self.new }
         ensures kept { KeepsArrays self.old self.new }
         ensures ready { OnOk result (AreSourcesKilled self.new index) }
-        ensures wanted { OnErr result (WantsMemory (IsSource self.new index) self.old self.new) }
+        ensures wanted { OnErr result (NeedsMemory (IsSource self.new index) self.old self.new) }
         ensures units { WorksUnits 1 (λ home. home ≡ index) self.old self.new }
         ensures alone { length self.old.linked ≡ 0 → self.new ≡ self.old }
         ensures succeeds { length self.old.linked ≡ 0 → IsOk result }
@@ -92,7 +92,7 @@ impl<K: Eq + Drop, V: Drop, L: LruList + Drop, const TYPE: u8> Arrays<K, V, L, T
         ensures placed { ArePlaced (H.hash_of hasher.now) self.new }
         ensures kept { KeepsArrays self.old self.new }
         ensures ready { OnOk result (AreSourcesKilled self.new index) }
-        ensures wanted { OnErr result (WantsMemory (IsSource self.new index) self.old self.new) }
+        ensures wanted { OnErr result (NeedsMemory (IsSource self.new index) self.old self.new) }
         ensures units { WorksUnits 1 (λ home. home ≡ index) self.old self.new }
     {
         let _ = self.work_unit(hasher);
@@ -152,9 +152,9 @@ impl<K: Eq + Drop, V: Drop, L: LruList + Drop, const TYPE: u8> Arrays<K, V, L, T
         ensures refused { length self.old.linked ≡ 0
             → OnErr result ((length self.old.current ≡ 0) × (self.new ≡ self.old)) }
         ensures wanted { OnErr result
-            (0 < length self.new.current → HomeWantsMemory hash self.old self.new) }
+            (0 < length self.new.current → HomeNeedsMemory hash self.old self.new) }
     {
-        self.sound();
+        self.fact_sound();
         if self.has_old() {
             let index = self.home(hash);
             return self.prepare_at(hasher, index);
@@ -199,7 +199,7 @@ impl<K, V, L: LruList, const TYPE: u8> Arrays<K, V, L, TYPE> {
         if TYPE == CACHE && array.num_slots() == self.maximum {
             return false;
         }
-        array.room();
+        array.fact_room();
         if array.bucket(index).len() < BUCKET_LEN - 1 {
             return false;
         }
@@ -223,7 +223,7 @@ impl<K, V, L: LruList, const TYPE: u8> Arrays<K, V, L, TYPE> {
             return None;
         }
         let index = self.home(hash);
-        self.room_of(Side::Current);
+        self.fact_room_of(Side::Current);
         if is_checked && self.bucket_of(Side::Current, index).len() >= BUCKET_LEN {
             return None;
         }

@@ -59,16 +59,16 @@ impl<K: Eq + Drop, V: Drop, H: KeyHash<K>, L: LruList + Drop, const TYPE: u8> Ha
     pub fn touch_mut_by<P: KeyProbe<K>>(&mut self, hash: u64, probe: &mut P) -> Option<&mut V>
         requires cache { TYPE ≡ CACHE }
         requires own_hash { (key : K)
-            → P.wants probe.old key ≡ true
+            → P.matches probe.old key ≡ true
             → H.hash_of self.old.hasher key ≡ hash }
         ensures* writes_back { sem 𝓛
             (LendsUnder K.row V.row H.row L.row TYPE K.PartialEq H.KeyHash
             (record { KEEPS = L.KEEPS; listed = L.listed; IsTail = L.IsTail }) L.Default
-            self.entry L.KEEPS (P.wants probe.old) hash result) }
+            self.entry L.KEEPS (P.matches probe.old) hash result) }
         ensures found { IfSome result (λ loan.
-            (own : K) × IsThere (P.wants probe.old) (pairs_of self.old.arrays) (own, loan.now)) }
-        ensures absent { IfNone result (IsAbsent (P.wants probe.old) (pairs_of self.old.arrays)) }
-        ensures fixed { P.wants probe.new ≡ P.wants probe.old }
+            (own : K) × IsThere (P.matches probe.old) (pairs_of self.old.arrays) (own, loan.now)) }
+        ensures absent { IfNone result (IsAbsent (P.matches probe.old) (pairs_of self.old.arrays)) }
+        ensures fixed { P.matches probe.new ≡ P.matches probe.old }
     {
         match self.fetch_spot(hash, probe) {
             Some(spot) => Some(
@@ -91,13 +91,13 @@ impl<K: Eq + Drop, V: Drop, H: KeyHash<K>, L: LruList + Drop, const TYPE: u8> Ha
     pub fn touch_by<P: KeyProbe<K>>(&mut self, hash: u64, probe: &mut P) -> bool
         requires cache { TYPE ≡ CACHE }
         requires own_hash { (key : K)
-            → P.wants probe.old key ≡ true
+            → P.matches probe.old key ≡ true
             → H.hash_of self.old.hasher key ≡ hash }
-        ensures map { Touches (P.wants probe.old) (state_of TYPE self.old) result
+        ensures map { Touches (P.matches probe.old) (state_of TYPE self.old) result
             (state_of TYPE self.new) }
         ensures arrays { PreparesThen TYPE hash self.old (λ between.
-            ChangesAt (P.wants probe.old) (slots_touched L.KEEPS) result between self.new) }
-        ensures fixed { P.wants probe.new ≡ P.wants probe.old }
+            ChangesAt (P.matches probe.old) (slots_touched L.KEEPS) result between self.new) }
+        ensures fixed { P.matches probe.new ≡ P.matches probe.old }
     {
         let Ok(_) = self.touch_place(hash, probe) else {
             return false;
@@ -123,19 +123,19 @@ impl<K: Eq + Drop, V: Drop, H: KeyHash<K>, L: LruList + Drop, const TYPE: u8> Ha
     ) -> Result<Spot<K, V, TYPE>, Vacancy>
         requires cache { TYPE ≡ CACHE }
         requires own_hash { (key : K)
-            → P.wants probe.old key ≡ true
+            → P.matches probe.old key ≡ true
             → H.hash_of self.old.hasher key ≡ hash }
         ensures map { KeepsPairs (state_of TYPE self.old) (state_of TYPE self.new) }
         ensures touched { IfOk result (λ spot. PreparesThen TYPE hash self.old (λ between.
-            ChangesPlace (P.wants probe.old) (slots_touched L.KEEPS) spot.side spot.index spot.at
+            ChangesPlace (P.matches probe.old) (slots_touched L.KEEPS) spot.side spot.index spot.at
             between self.new)) }
         ensures found { IfOk result (λ spot.
-            StandsAt (P.wants probe.old) self.new.arrays spot.side spot.index spot.at) }
-        ensures absent { OnErr result (IsAbsent (P.wants probe.old) (pairs_of self.new.arrays)) }
+            StandsAt (P.matches probe.old) self.new.arrays spot.side spot.index spot.at) }
+        ensures absent { OnErr result (IsAbsent (P.matches probe.old) (pairs_of self.new.arrays)) }
         ensures prepared { OnErr result (IsPrepared TYPE hash self.old self.new) }
         ensures vacancy { IfErr result (λ home.
             IsVacancy home hash self.old.arrays self.new.arrays) }
-        ensures fixed { P.wants probe.new ≡ P.wants probe.old }
+        ensures fixed { P.matches probe.new ≡ P.matches probe.old }
     {
         match self.fetch_place(hash, probe) {
             Ok(spot) => {
@@ -155,13 +155,13 @@ impl<K: Eq + Drop, V: Drop, H: KeyHash<K>, L: LruList + Drop, const TYPE: u8> Ha
         probe: &mut P,
     ) -> Option<Spot<K, V, TYPE>>
         requires own_hash { (key : K)
-            → P.wants probe.old key ≡ true
+            → P.matches probe.old key ≡ true
             → H.hash_of self.old.hasher key ≡ hash }
         ensures prepared { IsPrepared TYPE hash self.old self.new }
         ensures found { IfSome result (λ spot.
-            StandsAt (P.wants probe.old) self.new.arrays spot.side spot.index spot.at) }
-        ensures absent { IfNone result (IsAbsent (P.wants probe.old) (pairs_of self.old.arrays)) }
-        ensures fixed { P.wants probe.new ≡ P.wants probe.old }
+            StandsAt (P.matches probe.old) self.new.arrays spot.side spot.index spot.at) }
+        ensures absent { IfNone result (IsAbsent (P.matches probe.old) (pairs_of self.old.arrays)) }
+        ensures fixed { P.matches probe.new ≡ P.matches probe.old }
     {
         match self.fetch_place(hash, probe) {
             Ok(spot) => Some(spot),
@@ -186,17 +186,17 @@ impl<K: Eq + Drop, V: Drop, H: KeyHash<K>, L: LruList + Drop, const TYPE: u8> Ha
         probe: &mut P,
     ) -> Result<Spot<K, V, TYPE>, Vacancy>
         requires own_hash { (key : K)
-            → P.wants probe.old key ≡ true
+            → P.matches probe.old key ≡ true
             → H.hash_of self.old.hasher key ≡ hash }
         ensures prepared { IsPrepared TYPE hash self.old self.new }
         ensures found { IfOk result (λ spot.
-            StandsAt (P.wants probe.old) self.new.arrays spot.side spot.index spot.at) }
-        ensures absent { OnErr result (IsAbsent (P.wants probe.old) (pairs_of self.new.arrays)) }
+            StandsAt (P.matches probe.old) self.new.arrays spot.side spot.index spot.at) }
+        ensures absent { OnErr result (IsAbsent (P.matches probe.old) (pairs_of self.new.arrays)) }
         ensures vacancy { IfErr result (λ home.
             IsVacancy home hash self.old.arrays self.new.arrays) }
-        ensures fixed { P.wants probe.new ≡ P.wants probe.old }
+        ensures fixed { P.matches probe.new ≡ P.matches probe.old }
     {
-        self.sound();
+        self.fact_sound();
         match self.fetch_home(hash) {
             Ok(()) => match self.spot_at_home(hash, probe) {
                 Some(spot) => Ok(spot),

@@ -17,7 +17,7 @@ ghost use Rattle.bucket_table.specs.Views.ArraysView.{TableView, pairs_of};
 ghost use Rattle.bucket_table.specs.Views.Locking.{IsLocked};
 ghost use Rattle.bucket_table.specs.Views.Sides.{bucket_on, buckets_on, with_bucket};
 ghost use Rattle.bucket_table.specs.declared.hash_table.ResizeRule.TheVariants.{Sampled};
-ghost use Rattle.bucket_table.specs.declared.hash_table.NotInserted.TheVariants.{Present};
+ghost use Rattle.bucket_slots.specs.declared.not_inserted.NotInserted.TheVariants.{Present};
 ghost use Rattle.bucket_table.specs.declared.hash_table.Vacancy.TheVariants.{Ready};
 
 use crate::arrays::{Side, put_len, some_len};
@@ -195,7 +195,7 @@ impl<K: Eq + Drop, V: Drop, H: KeyHash<K>, L: LruList + Drop, const TYPE: u8> Ha
         ensures put { self.new ≡ with_bucket self.old side index (slots_put L.KEEPS
             (slots_left (bucket_on self.old.arrays side index) result) (key, value) (hash % 256)) }
     {
-        self.arrays.room_of(side);
+        self.arrays.fact_room_of(side);
         let bucket = self.arrays.bucket_of_mut(side, index);
         let gone = put_absent_in(bucket, hash, key, value);
         self.arrays.refresh_on(side, index);
@@ -222,7 +222,7 @@ impl<K: Eq + Drop, V: Drop, H: KeyHash<K>, L: LruList + Drop, const TYPE: u8> Ha
             result left
             × (self.new ≡ with_bucket self.old side index left) }
     {
-        self.arrays.room_of(side);
+        self.arrays.fact_room_of(side);
         let bucket = self.arrays.bucket_of_mut(side, index);
         let done = put_in(bucket, hash, key, value);
         self.arrays.refresh_on(side, index);

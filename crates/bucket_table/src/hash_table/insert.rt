@@ -8,7 +8,7 @@ ghost use Rattle.bucket_slots.specs.Clearing.{slots_after_insertion};
 ghost use Rattle.bucket_slots.specs.Homes.{IsHome};
 ghost use Rattle.bucket_slots.specs.Slots.{is_live, live_pair};
 ghost use Rattle.bucket_table.specs.Views.ArraysView.{pairs_of};
-ghost use Rattle.bucket_table.specs.Map.ByKey.{AnswersInsertion, ChangesAt, HandsBack, InsertsAt};
+ghost use Rattle.bucket_table.specs.Map.ByKey.{ChangesAt, InsertsAt, ReturnsPair};
 ghost use Rattle.bucket_table.specs.Map.ByKey.{PreparesThen, Inserts, StandsAt, Swaps, Rewrites};
 ghost use Rattle.bucket_table.specs.Map.ByKey.{WritesAt, Upserts, UpsertsAt};
 ghost use Rattle.bucket_table.specs.Map.Finding.{FindsThen};
@@ -16,7 +16,7 @@ ghost use Rattle.bucket_table.specs.Map.LookingUp.{IsThere};
 ghost use Rattle.bucket_table.specs.Map.MapState.{ChangesValue, state_of};
 ghost use Rattle.bucket_table.specs.Views.Sides.{bucket_on, buckets_on, with_bucket};
 ghost use Rattle.bucket_table.specs.Views.Locking.{IsLocked};
-ghost use Rattle.bucket_slots.specs.Digested.{UpsertsIn};
+ghost use Rattle.bucket_slots.specs.Digested.{AnswersInsertion, UpsertsIn};
 ghost use Rattle.bucket_slots.specs.Replacing.{slots_replaced};
 ghost use Rattle.bucket_table.specs.Map.Putting.{ReplacesPair};
 ghost use Rattle.bucket_table.specs.Map.Replacing.{Replaces};
@@ -82,10 +82,10 @@ impl<K: Eq + Drop, V: Drop, H: KeyHash<K>, L: LruList + Drop, const TYPE: u8> Ha
     {
         let hash = self.hash(&key);
         if let Some(index) = self.roomy_home(hash) {
-            return self.insert_at(Side::Current, index, hash, key, value, generation);
+            return self.insert_at(Side::Current, index, hash, (key, value), generation);
         }
         if let Some(index) = self.short_home(hash) {
-            return self.insert_at(Side::Current, index, hash, key, value, generation);
+            return self.insert_at(Side::Current, index, hash, (key, value), generation);
         }
         self.insert_found(hash, key, value, generation, rule)
     }
@@ -110,7 +110,7 @@ impl<K: Eq + Drop, V: Drop, H: KeyHash<K>, L: LruList + Drop, const TYPE: u8> Ha
         let Ok((side, index)) = self.find(hash, rule) else {
             return Err(self.not_inserted(hash, key, value));
         };
-        self.insert_at(side, index, hash, key, value, generation)
+        self.insert_at(side, index, hash, (key, value), generation)
     }
 
     /// Inserts a pair into a locked bucket if its key is absent.
@@ -120,25 +120,22 @@ impl<K: Eq + Drop, V: Drop, H: KeyHash<K>, L: LruList + Drop, const TYPE: u8> Ha
         side: Side,
         index: usize,
         hash: u64,
-        key: K,
-        value: V,
+        pair: (K, V),
         generation: &G,
     ) -> Result<(), NotInserted<K, V>>
         requires locked { IsLocked self.old.arrays side index }
-        requires own_hash { hash ≡ H.hash_of self.old.hasher key }
+        requires own_hash { hash ≡ H.hash_of self.old.hasher pair.0 }
         requires home { IsHome (length (buckets_on self.old.arrays side)) hash index }
-        ensures map { Inserts K.eq key value (state_of TYPE self.old) result
+        ensures map { Inserts K.eq pair.0 pair.1 (state_of TYPE self.old) result
             (state_of TYPE self.new) }
         ensures put { OnOk result (self.new ≡ with_bucket self.old side index
             (slots_after_insertion TYPE (G.keeps generation.now)
-            (bucket_on self.old.arrays side index) (key, value) (hash % 256))) }
+            (bucket_on self.old.arrays side index) pair (hash % 256))) }
         ensures unchanged { OnErr result (self.new ≡ self.old) }
-        ensures answer { AnswersInsertion K.eq key value (hash % 256) TYPE (G.keeps generation.now)
-            (bucket_on self.old.arrays side index) result }
+        ensures answer { AnswersInsertion K.eq pair.0 pair.1 (hash % 256) TYPE
+            (G.keeps generation.now) (bucket_on self.old.arrays side index) result }
     {
-        let done = self
-            .arrays
-            .insert_home(side, index, hash, key, value, generation);
+        let done = self.arrays.insert_home(side, index, hash, pair, generation);
         self.arrays.count_insertion(&mut self.count, &done);
         done
     }
@@ -199,17 +196,17 @@ impl<K: Eq + Drop, V: Drop, H: KeyHash<K>, L: LruList + Drop, const TYPE: u8> Ha
         change: F,
     ) -> Option<R>
         requires own_hash { (key : K)
-            → P.wants probe.old key ≡ true
+            → P.matches probe.old key ≡ true
             → H.hash_of self.old.hasher key ≡ hash }
         requires callable { (own : Bor K) (value : MutBor V)
-            → IsThere (P.wants probe.old) (pairs_of self.old.arrays) (own.now, value.now)
+            → IsThere (P.matches probe.old) (pairs_of self.old.arrays) (own.now, value.now)
             → F.pre change own value }
-        ensures map { Rewrites (P.wants probe.old)
+        ensures map { Rewrites (P.matches probe.old)
             (λ own before answer after. F.post change own before answer after)
             (state_of TYPE self.old) result (state_of TYPE self.new) }
         ensures arrays { PreparesThen TYPE hash self.old (λ between.
-            WritesAt (P.wants probe.old) (is_some result) between self.new) }
-        ensures fixed { P.wants probe.new ≡ P.wants probe.old }
+            WritesAt (P.matches probe.old) (is_some result) between self.new) }
+        ensures fixed { P.matches probe.new ≡ P.matches probe.old }
     {
         match self.fetch_spot(hash, probe) {
             Some(spot) => {
@@ -247,10 +244,10 @@ impl<K: Eq + Drop, V: Drop, H: KeyHash<K>, L: LruList + Drop, const TYPE: u8> Ha
     {
         let hash = self.hash(&key);
         if let Some(index) = self.roomy_home(hash) {
-            return self.upsert_at(Side::Current, index, hash, key, value, generation);
+            return self.upsert_at(Side::Current, index, hash, (key, value), generation);
         }
         if let Some(index) = self.short_home(hash) {
-            return self.upsert_at(Side::Current, index, hash, key, value, generation);
+            return self.upsert_at(Side::Current, index, hash, (key, value), generation);
         }
         self.upsert_found(hash, key, value, generation, rule)
     }
@@ -273,7 +270,7 @@ impl<K: Eq + Drop, V: Drop, H: KeyHash<K>, L: LruList + Drop, const TYPE: u8> Ha
             (H.hash_of self.old.hasher key % 256) between result answer self.new) }
     {
         match self.find(hash, rule) {
-            Ok((side, index)) => self.upsert_at(side, index, hash, key, value, generation),
+            Ok((side, index)) => self.upsert_at(side, index, hash, (key, value), generation),
             Err(_) => match self.spot_of(&key, hash) {
                 Some(spot) => Ok(Some(self.swap_at(&spot, value))),
                 None => Err((key, value)),
@@ -288,23 +285,20 @@ impl<K: Eq + Drop, V: Drop, H: KeyHash<K>, L: LruList + Drop, const TYPE: u8> Ha
         side: Side,
         index: usize,
         hash: u64,
-        key: K,
-        value: V,
+        pair: (K, V),
         generation: &G,
     ) -> Result<Option<V>, (K, V)>
         requires locked { IsLocked self.old.arrays side index }
-        requires own_hash { hash ≡ H.hash_of self.old.hasher key }
+        requires own_hash { hash ≡ H.hash_of self.old.hasher pair.0 }
         requires home { IsHome (length (buckets_on self.old.arrays side)) hash index }
-        ensures map { Upserts K.eq key value (state_of TYPE self.old) result
+        ensures map { Upserts K.eq pair.0 pair.1 (state_of TYPE self.old) result
             (state_of TYPE self.new) }
         ensures bucket { (left : BucketView K V)
-            × UpsertsIn K.eq key value (hash % 256) TYPE (G.keeps generation.now)
+            × UpsertsIn K.eq pair.0 pair.1 (hash % 256) TYPE (G.keeps generation.now)
             (bucket_on self.old.arrays side index) result left
             × (self.new ≡ with_bucket self.old side index left) }
     {
-        let done = self
-            .arrays
-            .upsert_home(side, index, hash, key, value, generation);
+        let done = self.arrays.upsert_home(side, index, hash, pair, generation);
         self.count = self.arrays.count_after(&self.count, 0, put_len(&done));
         done
     }
@@ -362,7 +356,7 @@ impl<K: Eq, V, H: KeyHash<K>, L: LruList, const TYPE: u8> HashTable<K, V, H, L, 
     /// allocation failed.
     pub(super) fn not_inserted(&self, hash: u64, key: K, value: V) -> NotInserted<K, V>
         requires own_hash { hash ≡ H.hash_of self.now.hasher key }
-        ensures { HandsBack K.eq key value (pairs_of self.now.arrays) result }
+        ensures { ReturnsPair K.eq key value (pairs_of self.now.arrays) result }
     {
         match self.spot_of(&key, hash) {
             Some(_) => NotInserted::Present(key, value),

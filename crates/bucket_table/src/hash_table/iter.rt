@@ -2,7 +2,7 @@
 //!
 //! Ports `num_entries` and `has_entry` of scc's `src/hash_table.rs`.
 ghost use Rattle.std.specs.Prelude.{◌*◌, ◌≤◌, ◌≡◌, ◌↔◌, ◌<◌, ◌++◌, [], IsTrue, length, ◌^◌, ◌≢◌};
-ghost use Rattle.bucket_table.specs.Views.ArraysView.{pairs_of, marks_of, IsOneMap};
+ghost use Rattle.bucket_table.specs.Views.ArraysView.{pairs_of, tombstones_of, IsOneMap};
 ghost use Rattle.bucket_table.specs.Map.Counting.{CountsAndResizes, IsHeldBy, counted_to};
 ghost use Rattle.bucket_table.specs.Map.MapState.{KeepsPairs, state_of};
 ghost use Rattle.bucket_table.specs.Rehash.Units.{WorksUnits};
@@ -83,8 +83,8 @@ impl<K: Eq + Drop, V: Drop, H: KeyHash<K>, L: LruList + Drop, const TYPE: u8> Ha
             (λ state own before answer after last. F.step state own before answer after last)
             keep.old (pairs_of self.old.arrays) (pairs_of self.new.arrays) keep.new }
         ensures count { result ≡ gone_len (pairs_of self.old.arrays) (pairs_of self.new.arrays) }
-        ensures marks { MarksBy (G.epoch_of generation.now) (marks_of self.old.arrays)
-            (marks_of self.new.arrays) }
+        ensures marks { MarksBy (G.epoch_of generation.now) (tombstones_of self.old.arrays)
+            (tombstones_of self.new.arrays) }
         // Only pairs change in the arrays, and the rehash goes on from where it was.
         ensures settings { KeepsSettings self.old self.new }
         ensures tickets { self.new.arrays.tickets ≡ self.old.arrays.tickets }
@@ -96,10 +96,13 @@ impl<K: Eq + Drop, V: Drop, H: KeyHash<K>, L: LruList + Drop, const TYPE: u8> Ha
         if !self.arrays.has_row() {
             return 0;
         }
-        self.arrays.row_room();
+        self.arrays.fact_row_room();
         let mut count: usize = 0;
         let mut index = 0;
         while let Some(bucket) = self.arrays.nth(index) {
+            if self.count.get() == 0 {
+                return count;
+            }
             if bucket.len() != 0 {
                 let gone = self.retain_nth(index, keep, generation);
                 count = count.saturating_add(gone);
@@ -127,7 +130,7 @@ impl<K: Eq + Drop, V: Drop, H: KeyHash<K>, L: LruList + Drop, const TYPE: u8> Ha
             keep.new }
         ensures hasher { self.new.hasher ≡ self.old.hasher }
     {
-        self.arrays.row_room();
+        self.arrays.fact_row_room();
         let gone = retain_each_in(self.arrays.nth_mut(index), keep, generation);
         self.arrays.refresh_nth(index);
         self.count = self.arrays.count_after(&self.count, gone, 0);
@@ -177,10 +180,10 @@ impl<K: Eq, V, H: KeyHash<K>, L: LruList, const TYPE: u8> HashTable<K, V, H, L, 
     }
 
     /// States that the current array has no more slots than the maximum; does nothing at run time.
-    pub fn bounded(&self)
+    pub fn fact_bounded(&self)
         ensures { 32 * length self.now.arrays.current ≤ self.now.arrays.maximum }
     {
-        self.arrays.sound();
+        self.arrays.fact_sound();
     }
 
     /// Tests whether the map has no pair.

@@ -97,7 +97,7 @@ impl<'a, K: Eq, V, H: KeyHash<K>, L: LruList, const TYPE: u8> LockedBucket<'a, K
         ensures null { result.pos ≡ 32 → result ≡ null_place }
     {
         let table = &*self.table;
-        table.arrays.room_of(self.side);
+        table.arrays.fact_room_of(self.side);
         table
             .arrays
             .bucket_of(self.side, self.index)
@@ -175,7 +175,7 @@ impl<'a, K: Eq, V, H: KeyHash<K>, L: LruList, const TYPE: u8> LockedBucket<'a, K
         let side = self.side;
         let index = self.index;
         let table = &mut *self.table;
-        table.arrays.room_of(side);
+        table.arrays.fact_room_of(side);
         let gone = table.arrays.bucket_of_mut(side, index).evict_lru_head();
         table.arrays.refresh_on(side, index);
         table.arrays.count_removal(&mut table.count, &gone);
@@ -245,7 +245,7 @@ impl<'a, K: Eq + Drop, V: Drop, H: KeyHash<K>, L: LruList, const TYPE: u8> Locke
         let side = self.side;
         let index = self.index;
         let table = &mut *self.table;
-        table.arrays.room_of(side);
+        table.arrays.fact_room_of(side);
         let placed = table
             .arrays
             .bucket_of_mut(side, index)

@@ -45,12 +45,12 @@ impl<K: Eq, V, H: KeyHash<K>, L: LruList, const TYPE: u8> HashTable<K, V, H, L, 
     #[inline(always)]
     pub fn spot_by<P: KeyProbe<K>>(&self, hash: u64, probe: &mut P) -> Option<Spot<K, V, TYPE>>
         requires own_hash { (key : K)
-            → P.wants probe.old key ≡ true
+            → P.matches probe.old key ≡ true
             → H.hash_of self.now.hasher key ≡ hash }
         ensures found { IfSome result (λ spot.
-            StandsAt (P.wants probe.old) self.now.arrays spot.side spot.index spot.at) }
-        ensures absent { IfNone result (IsAbsent (P.wants probe.old) (pairs_of self.now.arrays)) }
-        ensures fixed { P.wants probe.new ≡ P.wants probe.old }
+            StandsAt (P.matches probe.old) self.now.arrays spot.side spot.index spot.at) }
+        ensures absent { IfNone result (IsAbsent (P.matches probe.old) (pairs_of self.now.arrays)) }
+        ensures fixed { P.matches probe.new ≡ P.matches probe.old }
     {
         match self.arrays.search_on(Side::Old, hash, probe) {
             Some(spot) => Some(spot),
@@ -67,15 +67,15 @@ impl<K: Eq, V, H: KeyHash<K>, L: LruList, const TYPE: u8> HashTable<K, V, H, L, 
         probe: &mut P,
     ) -> Option<Spot<K, V, TYPE>>
         requires own_hash { (key : K)
-            → P.wants probe.old key ≡ true
+            → P.matches probe.old key ≡ true
             → H.hash_of self.now.hasher key ≡ hash }
         requires ready { IsReady self.now.arrays hash }
         ensures found { IfSome result (λ spot.
-            StandsAt (P.wants probe.old) self.now.arrays spot.side spot.index spot.at) }
-        ensures absent { IfNone result (IsAbsent (P.wants probe.old) (pairs_of self.now.arrays)) }
-        ensures fixed { P.wants probe.new ≡ P.wants probe.old }
+            StandsAt (P.matches probe.old) self.now.arrays spot.side spot.index spot.at) }
+        ensures absent { IfNone result (IsAbsent (P.matches probe.old) (pairs_of self.now.arrays)) }
+        ensures fixed { P.matches probe.new ≡ P.matches probe.old }
     {
-        self.arrays.room_of(Side::Current);
+        self.arrays.fact_room_of(Side::Current);
         let index = self.arrays.home(hash);
         match self
             .arrays
@@ -124,16 +124,16 @@ impl<K: Eq, V, H: KeyHash<K>, L: LruList, const TYPE: u8> HashTable<K, V, H, L, 
     #[inline(always)]
     pub fn peek_entry_by<P: KeyProbe<K>>(&self, hash: u64, probe: &mut P) -> Option<(&K, &V)>
         requires own_hash { (key : K)
-            → P.wants probe.old key ≡ true
+            → P.matches probe.old key ≡ true
             → H.hash_of self.now.hasher key ≡ hash }
         ensures found { IfSome result (λ pair.
-            IsThere (P.wants probe.old) (pairs_of self.now.arrays) (pair.0.now, pair.1.now)) }
+            IsThere (P.matches probe.old) (pairs_of self.now.arrays) (pair.0.now, pair.1.now)) }
         ensures absent { IfNone result
-            (IsAbsent (P.wants probe.old) (pairs_of self.now.arrays)) }
+            (IsAbsent (P.matches probe.old) (pairs_of self.now.arrays)) }
         ensures few { P.asked probe.new ≤ P.asked probe.old
             + looked_up_len hash
             self.now.arrays.linked self.now.arrays.current }
-        ensures fixed { P.wants probe.new ≡ P.wants probe.old }
+        ensures fixed { P.matches probe.new ≡ P.matches probe.old }
     {
         self.arrays.peek_by(hash, probe)
     }
@@ -248,16 +248,16 @@ impl<K: Eq + Drop, V: Drop, H: KeyHash<K>, L: LruList + Drop, const TYPE: u8> Ha
     #[inline(always)]
     pub fn get_mut_by<P: KeyProbe<K>>(&mut self, hash: u64, probe: &mut P) -> Option<&mut V>
         requires own_hash { (key : K)
-            → P.wants probe.old key ≡ true
+            → P.matches probe.old key ≡ true
             → H.hash_of self.old.hasher key ≡ hash }
         ensures* writes_back { sem 𝓛
             (LendsUnder K.row V.row H.row L.row TYPE K.PartialEq H.KeyHash
             (record { KEEPS = L.KEEPS; listed = L.listed; IsTail = L.IsTail }) L.Default
-            self.entry false (P.wants probe.old) hash result) }
+            self.entry false (P.matches probe.old) hash result) }
         ensures found { IfSome result (λ loan.
-            (own : K) × IsThere (P.wants probe.old) (pairs_of self.old.arrays) (own, loan.now)) }
-        ensures absent { IfNone result (IsAbsent (P.wants probe.old) (pairs_of self.old.arrays)) }
-        ensures fixed { P.wants probe.new ≡ P.wants probe.old }
+            (own : K) × IsThere (P.matches probe.old) (pairs_of self.old.arrays) (own, loan.now)) }
+        ensures absent { IfNone result (IsAbsent (P.matches probe.old) (pairs_of self.old.arrays)) }
+        ensures fixed { P.matches probe.new ≡ P.matches probe.old }
     {
         match self.fetch_spot(hash, probe) {
             Some(spot) => Some(self.entry_mut_at(spot.side, spot.index, &spot.at).1),

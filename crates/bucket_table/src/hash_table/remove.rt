@@ -4,7 +4,7 @@ ghost use Rattle.std.specs.Prelude.{◌≡◌, ◌≢◌, ◌<◌, Some, is_some
 ghost use Rattle.std.specs.Borrow.{Bor};
 ghost use Rattle.bucket_slots.specs.Marking.{MarksBy, slots_marked};
 ghost use Rattle.bucket_slots.specs.Removing.{slots_without};
-ghost use Rattle.bucket_table.specs.Views.ArraysView.{marks_of, pairs_of};
+ghost use Rattle.bucket_table.specs.Views.ArraysView.{tombstones_of, pairs_of};
 ghost use Rattle.bucket_table.specs.Map.ByKey.{PreparesThen, Marks, ShrinksAt, Takes};
 ghost use Rattle.bucket_table.specs.Map.Counting.{pairs_left};
 ghost use Rattle.bucket_table.specs.Map.LookingUp.{IsThere};
@@ -68,8 +68,8 @@ impl<K: Eq + Drop, V: Drop, H: KeyHash<K>, L: LruList + Drop, const TYPE: u8> Ha
             ShrinksAt (λ own. K.eq own key.now)
             (λ bucket at. slots_marked bucket at (G.epoch_of generation.now))
             (pairs_left rule self.old.arrays) (is_some result) between self.new) }
-        ensures marks { MarksBy (G.epoch_of generation.now) (marks_of self.old.arrays)
-            (marks_of self.new.arrays) }
+        ensures marks { MarksBy (G.epoch_of generation.now) (tombstones_of self.old.arrays)
+            (tombstones_of self.new.arrays) }
     {
         let hash = self.hash(key);
         self.mark_by(hash, &mut EqProbe::new(key), generation, rule, reader)
@@ -91,14 +91,14 @@ impl<K: Eq + Drop, V: Drop, H: KeyHash<K>, L: LruList + Drop, const TYPE: u8> Ha
     ) -> Option<(K, V)>
         requires not_index { TYPE ≢ INDEX }
         requires own_hash { (key : K)
-            → P.wants probe.old key ≡ true
+            → P.matches probe.old key ≡ true
             → H.hash_of self.old.hasher key ≡ hash }
-        ensures map { Takes (P.wants probe.old) (state_of TYPE self.old) result
+        ensures map { Takes (P.matches probe.old) (state_of TYPE self.old) result
             (state_of TYPE self.new) }
         ensures arrays { PreparesThen TYPE hash self.old (λ between.
-            ShrinksAt (P.wants probe.old) slots_without (pairs_left rule self.old.arrays)
+            ShrinksAt (P.matches probe.old) slots_without (pairs_left rule self.old.arrays)
             (is_some result) between self.new) }
-        ensures fixed { P.wants probe.new ≡ P.wants probe.old }
+        ensures fixed { P.matches probe.new ≡ P.matches probe.old }
     {
         let pairs = self.pairs_left(rule);
         let _ready = self.fetch_home(hash);
@@ -129,19 +129,20 @@ impl<K: Eq + Drop, V: Drop, H: KeyHash<K>, L: LruList + Drop, const TYPE: u8> Ha
     ) -> Option<R>
         requires index { TYPE ≡ INDEX }
         requires own_hash { (key : K)
-            → P.wants probe.old key ≡ true
+            → P.matches probe.old key ≡ true
             → H.hash_of self.old.hasher key ≡ hash }
         requires callable { (own : Bor K) (value : Bor V)
-            → IsThere (P.wants probe.old) (pairs_of self.old.arrays) (own.now, value.now)
+            → IsThere (P.matches probe.old) (pairs_of self.old.arrays) (own.now, value.now)
             → F.pre reader own value }
-        ensures map { Marks (P.wants probe.old) (λ own value answer. F.post reader own value answer)
+        ensures map { Marks (P.matches probe.old)
+            (λ own value answer. F.post reader own value answer)
             (state_of TYPE self.old) result (state_of TYPE self.new) }
-        ensures arrays { PreparesThen TYPE hash self.old (λ between. ShrinksAt (P.wants probe.old)
+        ensures arrays { PreparesThen TYPE hash self.old (λ between. ShrinksAt (P.matches probe.old)
             (λ bucket at. slots_marked bucket at (G.epoch_of generation.now))
             (pairs_left rule self.old.arrays) (is_some result) between self.new) }
-        ensures marks { MarksBy (G.epoch_of generation.now) (marks_of self.old.arrays)
-            (marks_of self.new.arrays) }
-        ensures fixed { P.wants probe.new ≡ P.wants probe.old }
+        ensures marks { MarksBy (G.epoch_of generation.now) (tombstones_of self.old.arrays)
+            (tombstones_of self.new.arrays) }
+        ensures fixed { P.matches probe.new ≡ P.matches probe.old }
     {
         let pairs = self.pairs_left(rule);
         match self.fetch_spot(hash, probe) {

@@ -61,7 +61,7 @@ impl<K: Eq + Drop, V: Drop, H: KeyHash<K>, const TYPE: u8> HashTable<
         if !source.has_row() {
             return;
         }
-        source.row_room();
+        source.fact_row_room();
         let mut index = 0;
         'buckets: while let Some(_bucket) = source.nth(index) {
             self.pour_bucket(source.nth_mut(index));
@@ -88,7 +88,7 @@ impl<K: Eq + Drop, V: Drop, H: KeyHash<K>, const TYPE: u8> HashTable<
         ensures own { bucket.new.own ≡ bucket.old.own }
         ensures listed { bucket.new.listed ≡ bucket.old.listed }
     {
-        bucket.sound();
+        bucket.fact_sound();
         let mut at = EntryPtr::own_slot(BUCKET_LEN - 1);
         'pairs: while at.find_next(bucket) {
             let (key, value) = bucket.remove(&mut at);
@@ -102,7 +102,7 @@ impl<K: Eq + Drop, V: Drop, H: KeyHash<K>, const TYPE: u8> HashTable<
         requires awaits { Awaits K.eq self.old (own_by_age bucket.old) }
         ensures { Pours H.hash_of self.old (own_by_age bucket.old) self.new }
     {
-        bucket.sound();
+        bucket.fact_sound();
         let slots = bucket.slots_by_use();
         let mut left = BUCKET_LEN;
         'slots: while left > 0 {

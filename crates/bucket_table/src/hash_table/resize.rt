@@ -19,15 +19,16 @@ ghost use Rattle.bucket_table.specs.Resize.Remaking.{RehashesTo};
 ghost use Rattle.bucket_slots.specs.ArrayView.{bucket_at};
 ghost use Rattle.bucket_slots.specs.BucketView.{listed_pairs};
 ghost use Rattle.bucket_table.specs.Rehash.Carrying.{CarriesPairs};
-ghost use Rattle.bucket_table.specs.Views.ArraysView.{marks_of};
+ghost use Rattle.bucket_table.specs.Views.ArraysView.{tombstones_of};
 ghost use Rattle.bucket_table.specs.Rehash.Rehashing.{EndsRehash, IsUnmoved, RelocatesAt};
 ghost use Rattle.bucket_table.specs.Rehash.Steps.{Starts};
-ghost use Rattle.bucket_table.specs.Rehash.Units.{NeedsNoMemory, WantsMemory, WorksUnits};
+ghost use Rattle.bucket_table.specs.Rehash.Units.{NeedsNoMemory, NeedsMemory, WorksUnits};
 ghost use Rattle.bucket_table.specs.declared.tickets.TicketError.TheVariants.{NotOpen};
 ghost use Rattle.bucket_slots.specs.Marking.{HasNoNewMark};
 ghost use Rattle.bucket_table.specs.Rehash.Finishing.{IsUnopened, units_left};
 ghost use Rattle.bucket_table.specs.Views.Keeping.{KeepsArrays};
 
+use crate::arrays::Side;
 use crate::hash_table::HashTable;
 use crate::key_hash::KeyHash;
 use crate::tickets::TicketError;
@@ -59,17 +60,15 @@ impl<K: Eq + Drop, V: Drop, H: KeyHash<K>, L: LruList + Drop, const TYPE: u8> Ha
             (record { KEEPS = L.KEEPS; listed = L.listed; IsTail = L.IsTail }) L.Default
             self.entry (λ new. GetsArray self.old result new)) }
     {
-        self.arrays.sound();
+        self.arrays.fact_sound();
         self.arrays.make_array()?;
-        match self.arrays.array() {
-            Some(array) => Ok(array),
-            None => unreachable!(),
-        }
+        Ok(self.arrays.array_of(Side::Current))
     }
 
     /// Doubles the slots, whatever the plan of a resize says, if the home of a hash is overfull: it
-    /// has 48 live pairs or more, the map has at least a pair for each 8 slots, no incremental
-    /// rehash is under way, and twice the slots do not exceed the maximum. Returns whether it did.
+    /// has 48 live pairs or more, or 32 and a chain of 8 blocks; the map has at least a pair for
+    /// each 8 slots, no incremental rehash is under way, and twice the slots do not exceed the
+    /// maximum. Returns whether it did.
     ///
     /// The current array then becomes the old one, unchanged, and an empty array of twice its slots
     /// becomes the current one. Works no unit.
@@ -217,12 +216,13 @@ impl<K: Eq + Drop, V: Drop, H: KeyHash<K>, L: LruList + Drop, const TYPE: u8> Ha
         success: bool,
     ) -> Result<bool, TicketError>
         ensures map { KeepsPairs (state_of TYPE self.old) (state_of TYPE self.new) }
-        ensures marks { HasNoNewMark (marks_of self.old.arrays) (marks_of self.new.arrays) }
+        ensures marks { HasNoNewMark (tombstones_of self.old.arrays)
+            (tombstones_of self.new.arrays) }
         ensures hasher { self.new.hasher ≡ self.old.hasher }
         ensures rehash { EndsRehash self.old.arrays ticket success result self.new.arrays }
         ensures none { length self.old.arrays.linked ≡ 0 → result ≡ Err NotOpen }
     {
-        self.arrays.sound();
+        self.arrays.fact_sound();
         self.arrays.end_incremental_rehash(ticket, success)
     }
 
@@ -244,7 +244,7 @@ impl<K: Eq + Drop, V: Drop, H: KeyHash<K>, L: LruList + Drop, const TYPE: u8> Ha
         ensures alone { length self.old.arrays.linked ≡ 0
             → (result ≡ Ok 0) × (self.new ≡ self.old) }
         ensures wanted { OnErr result
-            (WantsMemory (λ i. Unit {0}) self.old.arrays self.new.arrays) }
+            (NeedsMemory (λ i. Unit {0}) self.old.arrays self.new.arrays) }
         ensures units { OnErr result (WorksUnits
             (self.new.arrays.tickets.position + 1 - self.old.arrays.tickets.position)
             (λ index. ⊥) self.old.arrays self.new.arrays) }
@@ -253,7 +253,7 @@ impl<K: Eq + Drop, V: Drop, H: KeyHash<K>, L: LruList + Drop, const TYPE: u8> Ha
         ensures kept { KeepsArrays self.old.arrays self.new.arrays }
         ensures none_open { IsUnopened self.new.arrays }
     {
-        self.arrays.sound();
+        self.arrays.fact_sound();
         self.arrays.finish_rehash(&self.hasher)
     }
 }
@@ -282,7 +282,7 @@ impl<K: Eq, V, H: KeyHash<K>, L: LruList, const TYPE: u8> HashTable<K, V, H, L, 
         } }
         ensures none { length self.old.arrays.linked ≡ 0 → result ≡ None }
     {
-        self.arrays.sound();
+        self.arrays.fact_sound();
         self.arrays.start_incremental_rehash()
     }
 }

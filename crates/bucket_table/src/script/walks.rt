@@ -73,11 +73,11 @@ pub(super) fn walk<K: Eq + Copy, V: Copy, H: KeyHash<K>, L: LruList + Drop, cons
     ensures tickets { TicketStep (rehash_of table.old.arrays) Call.Walk result
         (rehash_of table.new.arrays) }
 {
-    table.sound();
+    table.fact_sound();
     if table.num_slots() == 0 {
         return Reply::Walked(0, 0);
     }
-    table.room();
+    table.fact_room();
     let mut tally = Tally {
         buckets: 0,
         pairs: 0,
@@ -110,11 +110,11 @@ pub(super) fn clear<
     ensures tickets { TicketStep (rehash_of table.old.arrays) Call.Clear result
         (rehash_of table.new.arrays) }
 {
-    table.sound();
+    table.fact_sound();
     if table.num_slots() == 0 {
         return Reply::Cleared(0);
     }
-    table.room();
+    table.fact_room();
     empties_keep::<K, V, G, TYPE>();
     let mut emptier = Emptier {
         generation,

@@ -30,12 +30,12 @@ impl<K: Eq + Drop, V: Drop, H: KeyHash<K>> HashCache<K, V, H> {
             (ResizesTo K.eq (H.hash_of self.old.hasher) slots self.old self.new) }
         ensures unchanged { OnErr result (self.new.arrays ≡ self.old.arrays) }
     {
-        self.room.learn();
-        self.table.sound();
+        self.room.fact_fits();
+        self.table.fact_sound();
         let Ok(()) = self.table.renew(size_for(slots)) else {
             return Err(AllocError);
         };
-        self.table.sound();
+        self.table.fact_sound();
         Ok(())
     }
 }
@@ -46,7 +46,7 @@ impl<K: Eq, V, H: KeyHash<K> + Clone> Emptied for HashCache<K, V, H> {
     ghost is_emptied = { λ cache. IsEmpty (map_of cache) };
 
     fn emptied(like: &HashCache<K, V, H>) -> Result<HashCache<K, V, H>, AllocError> {
-        like.room.learn();
+        like.room.fact_fits();
         let hasher = like.table.hasher().clone()?;
         let minimum = like.table.minimum_capacity();
         let maximum = like.table.maximum_capacity();

@@ -9,7 +9,7 @@ ghost use Rattle.collections.specs.Changes.{Calls, Retains, Rewrites};
 ghost use Rattle.collections.specs.Maps.{get_by, map_of};
 ghost use Rattle.collections.specs.Retaining.{LeavesBuckets};
 
-use crate::calling::{called_with, learn_asks};
+use crate::calling::{called_with, fact_asks};
 use crate::hash_cache::HashCache;
 use crate::key_form::{FormProbe, KeyForm};
 use bucket_slots::bucket::CACHE;
@@ -38,13 +38,13 @@ impl<K: Eq + Drop, V: Drop, H: KeyHash<K>> HashCache<K, V, H> {
         ensures place { IsWritten false (Q.stands_for key) K.eq (is_some result) self.old
             self.new }
     {
-        self.room.learn();
-        self.table.sound();
+        self.room.fact_fits();
+        self.table.fact_sound();
         let hash = key.hash_by(self.table.hasher());
         let outcome = self
             .table
             .update_by(hash, &mut FormProbe::<Q, H>::new(key), change);
-        self.table.sound();
+        self.table.fact_sound();
         outcome
     }
 
@@ -60,8 +60,8 @@ impl<K: Eq + Drop, V: Drop, H: KeyHash<K>> HashCache<K, V, H> {
             (IsWritten true (Q.stands_for key) K.eq)) }
         ensures value { option_copied_mut result ≡ get_by (Q.stands_for key) (map_of self.old) }
     {
-        self.room.learn();
-        self.table.sound();
+        self.room.fact_fits();
+        self.table.fact_sound();
         let hash = key.hash_by(self.table.hasher());
         self.table
             .touch_mut_by(hash, &mut FormProbe::<Q, H>::new(key))
@@ -79,8 +79,8 @@ impl<K: Eq + Drop, V: Drop, H: KeyHash<K>> HashCache<K, V, H> {
             (IsWritten false (Q.stands_for key) K.eq)) }
         ensures value { option_copied_mut result ≡ get_by (Q.stands_for key) (map_of self.old) }
     {
-        self.room.learn();
-        self.table.sound();
+        self.room.fact_fits();
+        self.table.fact_sound();
         let hash = key.hash_by(self.table.hasher());
         self.table
             .get_mut_by(hash, &mut FormProbe::<Q, H>::new(key))
@@ -101,9 +101,9 @@ impl<K: Eq + Drop, V: Drop, H: KeyHash<K>> HashCache<K, V, H> {
             f.old (map_of self.old) (map_of self.new) f.new }
         ensures buckets { LeavesBuckets CACHE self.old.arrays self.new.arrays }
     {
-        self.room.learn();
+        self.room.fact_fits();
         let _ = self.table.retain(f, &());
-        self.table.sound();
+        self.table.fact_sound();
     }
 
     /// Calls a function once with each key and a mutable reference to its value. Each pair stays in
@@ -124,7 +124,7 @@ impl<K: Eq + Drop, V: Drop, H: KeyHash<K>> HashCache<K, V, H> {
             ensures { (result ≡ true) × Calls (λ own before after.
                 F.step f.entry.now own before tt after f.exit.now) key.now value.old value.new }
         { called_with(f, key, value) };
-        learn_asks(&keep);
+        fact_asks(&keep);
         self.retain(&mut keep);
     }
 }

@@ -18,7 +18,7 @@ impl<K: Eq, V: PartialEq, H: KeyHash<K>> PartialEq for HashCache<K, V, H> {
     ghost laws = { on_per map_of (map_eq_per K.eq K.Eq.laws V.eq V.laws) };
 
     fn eq(&self, other: &HashCache<K, V, H>) -> bool {
-        self.room.learn();
+        self.room.fact_fits();
         are_equal(&self.table, &other.table)
     }
 }

@@ -19,7 +19,7 @@ use std::iter::IntoIterator;
 /// An iterator over the pairs of a cache, each as `(&K, &V)`.
 pub type Iter<'a, K, V> = TablePairs<'a, K, V, DoublyLinkedList, CACHE>;
 
-/// An iterator over the pairs of a cache, bucket by bucket, in each by use.
+/// An iterator over the pairs of a cache, bucket by bucket, in LRU order in each.
 pub type IterByUse<'a, K, V> = PairsByUse<'a, K, V>;
 
 /// An iterator over the keys of a cache.
@@ -38,8 +38,8 @@ impl<K: Eq, V, H: KeyHash<K>> HashCache<K, V, H> {
         ensures rest { result ≡ pairs_of self.now.arrays }
         ensures unique { IsUnique K.eq (map_of self.now) }
     {
-        self.room.learn();
-        self.table.sound();
+        self.room.fact_fits();
+        self.table.fact_sound();
         self.table.pairs()
     }
 
@@ -54,8 +54,8 @@ impl<K: Eq, V, H: KeyHash<K>> HashCache<K, V, H> {
         ensures each { IsPermutation (pairs_of self.now.arrays) result }
         ensures unique { IsUnique K.eq (map_of self.now) }
     {
-        self.room.learn();
-        self.table.sound();
+        self.room.fact_fits();
+        self.table.fact_sound();
         self.table.pairs_by_use()
     }
 
@@ -66,8 +66,8 @@ impl<K: Eq, V, H: KeyHash<K>> HashCache<K, V, H> {
         ensures rest { result ≡ keys_of (pairs_of self.now.arrays) }
         ensures unique { IsUnique K.eq (map_of self.now) }
     {
-        self.room.learn();
-        self.table.sound();
+        self.room.fact_fits();
+        self.table.fact_sound();
         PairKeys {
             inner: self.table.pairs(),
         }
@@ -79,7 +79,7 @@ impl<K: Eq, V, H: KeyHash<K>> HashCache<K, V, H> {
     pub fn values(&self) -> Values<'_, K, V>
         ensures { result ≡ values_of (pairs_of self.now.arrays) }
     {
-        self.room.learn();
+        self.room.fact_fits();
         PairValues {
             inner: self.table.pairs(),
         }
@@ -97,8 +97,8 @@ impl<K: Eq, V, H: KeyHash<K>> HashCache<K, V, H> {
         ensures arrays { self.new.arrays
             ≡ record self.old.arrays { current = []; linked = []; tickets = first_tickets 0 } }
     {
-        self.room.learn();
-        self.table.sound();
+        self.room.fact_fits();
+        self.table.fact_sound();
         self.table.drain()
     }
 }

@@ -7,13 +7,13 @@ ghost use Rattle.bucket_table.specs.Map.LookingUp.{IsAbsent};
 ghost use Rattle.bucket_table.specs.Map.Preparing.{IsPrepared, IsReady};
 ghost use Rattle.bucket_table.specs.Map.Vacancies.{IsVacancy};
 ghost use Rattle.bucket_table.specs.Views.ArraysView.{TableView, pairs_of};
-ghost use Rattle.bucket_table.specs.declared.hash_table.NotInserted.TheVariants.{Present};
+ghost use Rattle.bucket_slots.specs.declared.not_inserted.NotInserted.TheVariants.{Present};
 ghost use Rattle.bucket_table.specs.declared.hash_table.Vacancy.TheVariants.{Ready};
 ghost use Rattle.collections.specs.Crowding.{LacksBucket};
 ghost use Rattle.collections.specs.Maps.{contains, map_of};
 
 use crate::hash_cache::{HashCache, NotInserted};
-use crate::homes::learn_refused;
+use crate::homes::fact_refused;
 use crate::key_form::FormProbe;
 use bucket_table::hash_table::Vacancy;
 use bucket_table::key_hash::KeyHash;
@@ -52,8 +52,8 @@ impl<K: Eq + Drop, V: Drop, H: KeyHash<K>> HashCache<K, V, H> {
             result self.new }
         ensures memory { OnErr result (LacksBucket H.hash_of key (map_of self.old)) }
     {
-        self.room.learn();
-        self.table.sound();
+        self.room.fact_fits();
+        self.table.fact_sound();
         let hash = self.table.hash(&key);
         match self
             .table
@@ -96,8 +96,8 @@ impl<K: Eq + Drop, V: Drop, H: KeyHash<K>> HashCache<K, V, H> {
             self.new }
         ensures memory { OnErr result (LacksBucket H.hash_of key (map_of self.old)) }
     {
-        self.room.learn();
-        self.table.sound();
+        self.room.fact_fits();
+        self.table.fact_sound();
         let hash = self.table.hash(&key);
         match self
             .table
@@ -133,11 +133,11 @@ impl<K: Eq + Drop, V: Drop, H: KeyHash<K>> HashCache<K, V, H> {
             → IsVacancy home hash first.arrays self.old.arrays
             → PutsVacant K.eq H.hash_of key value hash first result self.new }
     {
-        self.room.learn();
-        self.table.sound();
+        self.room.fact_fits();
+        self.table.fact_sound();
         let outcome = self.table.put_vacant(home, hash, key, value);
-        learn_refused(&self.table, &outcome);
-        self.table.sound();
+        fact_refused(&self.table, &outcome);
+        self.table.fact_sound();
         outcome
     }
 }

@@ -33,7 +33,7 @@ impl<K: Eq + Drop, V: Drop, H: KeyHash<K>> HashCache<K, V, H> {
         ensures place { LeavesPlace (Q.stands_for key) (is_some result) self.old.arrays
             self.new.arrays }
     {
-        self.room.learn();
+        self.room.fact_fits();
         if asks(&self.table, key, condition) {
             self.remove(key)
         } else {

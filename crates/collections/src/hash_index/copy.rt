@@ -2,7 +2,7 @@
 //! for an entry's `or_default`. Allocation may fail.
 ghost use Rattle.std.specs.Prelude.{◌≡◌, [], IfOk, IsOk, OnOk, min};
 ghost use Rattle.bucket_table.specs.Resize.Resizing.{with_minimum};
-ghost use Rattle.bucket_table.specs.Views.ArraysView.{marks_of};
+ghost use Rattle.bucket_table.specs.Views.ArraysView.{tombstones_of};
 ghost use Rattle.collections.specs.Clones.{IsClone, PutsClone};
 ghost use Rattle.collections.specs.Maps.{IsEmpty, map_of};
 
@@ -26,12 +26,12 @@ impl<K: Eq + Clone, V: Clone, H: KeyHash<K> + Clone> HashIndex<K, V, H> {
     /// O(slots) expected. scc: `HashIndex::clone`.
     pub fn try_clone(&self, alloc: Global) -> Result<Self, AllocError>
         ensures copy { IfOk result (λ copy. IsClone K.eq K.is_clone V.is_clone H.is_clone
-            (map_of self.now) (map_of copy) × (marks_of copy.arrays ≡ [])) }
+            (map_of self.now) (map_of copy) × (tombstones_of copy.arrays ≡ [])) }
         ensures succeeds { IsEmpty (map_of self.now)
             → H.is_infallible self.now.hasher
             → IsOk result }
     {
-        self.room.learn();
+        self.room.fact_fits();
         let minimum = self.table.minimum_capacity();
         let hasher = self.table.hasher().clone()?;
         let roomy = minimum.max(minimum_for(self.len()));
@@ -53,7 +53,7 @@ impl<K: Eq + Clone, V: Clone, H: KeyHash<K>> HashIndex<K, V, H> {
           arrays = with_minimum self.old.arrays (min slots self.old.arrays.maximum);
         } }
     {
-        self.room.learn();
+        self.room.fact_fits();
         let least = slots.min(self.table.maximum_capacity());
         self.table.set_minimum(least);
     }
@@ -62,7 +62,7 @@ impl<K: Eq + Clone, V: Clone, H: KeyHash<K>> HashIndex<K, V, H> {
     fn put_clone(&mut self, key: &K, value: &V) -> Result<(), AllocError>
         ensures { OnOk result (PutsClone K.eq K.is_clone V.is_clone (map_of self.old)
             (key.now, value.now) (map_of self.new)
-            × (marks_of self.old.arrays ≡ [] → marks_of self.new.arrays ≡ [])) }
+            × (tombstones_of self.old.arrays ≡ [] → tombstones_of self.new.arrays ≡ [])) }
     {
         let own = key.clone()?;
         if !key.eq(&own) {
@@ -80,12 +80,12 @@ impl<K: Eq + Clone, V: Clone, H: KeyHash<K>> HashIndex<K, V, H> {
 /// derive `Clone`.
 impl<K: Eq + Clone, V: Clone, H: KeyHash<K> + Clone> Clone for HashIndex<K, V, H> {
     ghost is_clone = { λ own copy. IsClone K.eq K.is_clone V.is_clone H.is_clone (map_of own)
-        (map_of copy) × (marks_of copy.arrays ≡ []) };
+        (map_of copy) × (tombstones_of copy.arrays ≡ []) };
 
     ghost is_infallible = { λ own. IsEmpty (map_of own) × H.is_infallible own.hasher };
 
     fn clone(&self) -> Result<HashIndex<K, V, H>, AllocError> {
-        self.room.learn();
+        self.room.fact_fits();
         self.try_clone(self.table.allocator())
     }
 }
@@ -93,17 +93,17 @@ impl<K: Eq + Clone, V: Clone, H: KeyHash<K> + Clone> Clone for HashIndex<K, V, H
 /// `mem::try_take(&mut index)` takes an index with its tombstones, and leaves an empty one with a
 /// clone of its hasher. Its minimum is 0. It fails only if that clone does. O(1).
 impl<K: Eq, V, H: KeyHash<K> + Clone> Emptied for HashIndex<K, V, H> {
-    ghost is_emptied = { λ index. IsEmpty (map_of index) × (marks_of index.arrays ≡ []) };
+    ghost is_emptied = { λ index. IsEmpty (map_of index) × (tombstones_of index.arrays ≡ []) };
 
     fn emptied(like: &HashIndex<K, V, H>) -> Result<HashIndex<K, V, H>, AllocError> {
-        like.room.learn();
+        like.room.fact_fits();
         Ok(HashIndex::with_hasher(like.table.allocator(), like.table.hasher().clone()?))
     }
 }
 
 /// An index can be the value that an entry's `or_default` makes.
 impl<K: Eq + Hash, V> MadeWith<Global> for HashIndex<K, V, DefaultHash> {
-    ghost is_made_with = { λ index. IsEmpty (map_of index) × (marks_of index.arrays ≡ []) };
+    ghost is_made_with = { λ index. IsEmpty (map_of index) × (tombstones_of index.arrays ≡ []) };
 
     fn made_with(alloc: Global) -> HashIndex<K, V, DefaultHash> {
         HashIndex::new(alloc)

@@ -29,8 +29,8 @@ impl<K: Eq, V, H: KeyHash<K>> HashIndex<K, V, H> {
         ensures rest { result ≡ pairs_of self.now.arrays }
         ensures unique { IsUnique K.eq (map_of self.now) }
     {
-        self.room.learn();
-        self.table.sound();
+        self.room.fact_fits();
+        self.table.fact_sound();
         self.table.pairs()
     }
 
@@ -41,8 +41,8 @@ impl<K: Eq, V, H: KeyHash<K>> HashIndex<K, V, H> {
         ensures rest { result ≡ keys_of (pairs_of self.now.arrays) }
         ensures unique { IsUnique K.eq (map_of self.now) }
     {
-        self.room.learn();
-        self.table.sound();
+        self.room.fact_fits();
+        self.table.fact_sound();
         PairKeys {
             inner: self.table.pairs(),
         }
@@ -54,7 +54,7 @@ impl<K: Eq, V, H: KeyHash<K>> HashIndex<K, V, H> {
     pub fn values(&self) -> Values<'_, K, V>
         ensures { result ≡ values_of (pairs_of self.now.arrays) }
     {
-        self.room.learn();
+        self.room.fact_fits();
         PairValues {
             inner: self.table.pairs(),
         }

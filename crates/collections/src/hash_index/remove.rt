@@ -4,7 +4,7 @@ ghost use Rattle.std.specs.Borrow.{Bor};
 ghost use Rattle.std.specs.Bool.{OnFalse};
 ghost use Rattle.bucket_slots.specs.Marking.{MarksBy};
 ghost use Rattle.bucket_table.specs.Map.LookingUp.{IsThere};
-ghost use Rattle.bucket_table.specs.Views.ArraysView.{marks_of, pairs_of};
+ghost use Rattle.bucket_table.specs.Views.ArraysView.{tombstones_of, pairs_of};
 ghost use Rattle.collections.specs.Maps.{map_of};
 ghost use Rattle.collections.specs.Marks.{MarksRemoved};
 ghost use Rattle.collections.specs.Removals.{TakesOutIf};
@@ -12,7 +12,7 @@ ghost use Rattle.collections.specs.Slots.{LosesSlots};
 ghost use Rattle.collections.specs.Changes.{Retains};
 ghost use Rattle.collections.specs.Retaining.{LeavesBuckets};
 
-use crate::calling::learn_asks;
+use crate::calling::fact_asks;
 use crate::hash_index::HashIndex;
 use crate::hash_index::generation::NoneKept;
 use crate::key_form::{KeyForm, asks};
@@ -37,11 +37,11 @@ impl<K: Eq + Drop, V: Drop, H: KeyHash<K>> HashIndex<K, V, H> {
             (λ own value answer. F.post condition own value answer) (map_of self.old) result
             (map_of self.new) }
         ensures unchanged { OnFalse result (self.new ≡ self.old) }
-        ensures marks { MarksBy 0 (marks_of self.old.arrays) (marks_of self.new.arrays) }
+        ensures marks { MarksBy 0 (tombstones_of self.old.arrays) (tombstones_of self.new.arrays) }
         ensures marked { MarksRemoved (Q.stands_for key) result self.old.arrays self.new.arrays }
         ensures slots { LosesSlots result (map_of self.old) (map_of self.new) }
     {
-        self.room.learn();
+        self.room.fact_fits();
         if asks(&self.table, key, condition) {
             self.remove(key)
         } else {
@@ -61,7 +61,7 @@ impl<K: Eq + Drop, V: Drop, H: KeyHash<K>> HashIndex<K, V, H> {
             (λ state own before answer after last. (after.now ≡ before.now)
             × ((value : Bor V) × (value.now ≡ before.now) × F.step state own value answer last))
             f.old (map_of self.old) (map_of self.new) f.new }
-        ensures marks { MarksBy 0 (marks_of self.old.arrays) (marks_of self.new.arrays) }
+        ensures marks { MarksBy 0 (tombstones_of self.old.arrays) (tombstones_of self.new.arrays) }
         ensures buckets { LeavesBuckets INDEX self.old.arrays self.new.arrays }
     {
         let mut keep = |key: &K, value: &mut V|
@@ -69,7 +69,7 @@ impl<K: Eq + Drop, V: Drop, H: KeyHash<K>> HashIndex<K, V, H> {
             ensures { (value.new ≡ value.old) × ((lent : Bor V) × (lent.now ≡ value.old)
                 × F.step f.entry.now key.entry lent result f.exit.now) }
         { f(key, &*value) };
-        learn_asks(&keep);
+        fact_asks(&keep);
         self.retain_mut(&mut keep);
     }
 
@@ -80,11 +80,11 @@ impl<K: Eq + Drop, V: Drop, H: KeyHash<K>> HashIndex<K, V, H> {
         ensures retained { Retains K.eq
             (λ state own before answer after last. F.step state own before answer after last)
             f.old (map_of self.old) (map_of self.new) f.new }
-        ensures marks { MarksBy 0 (marks_of self.old.arrays) (marks_of self.new.arrays) }
+        ensures marks { MarksBy 0 (tombstones_of self.old.arrays) (tombstones_of self.new.arrays) }
         ensures buckets { LeavesBuckets INDEX self.old.arrays self.new.arrays }
     {
-        self.room.learn();
+        self.room.fact_fits();
         let _ = self.table.retain(f, &NoneKept);
-        self.table.sound();
+        self.table.fact_sound();
     }
 }

@@ -87,10 +87,10 @@ impl<K: Eq + Drop, V: Drop, H: KeyHash<K>> HashMap<K, V, H> {
     pub fn raise_minimum(&mut self, additional: usize) -> usize
         ensures { Reserves K.eq additional self.old result self.new }
     {
-        self.room.learn();
-        self.table.sound();
+        self.room.fact_fits();
+        self.table.fact_sound();
         let raised = self.table.reserve_capacity(additional);
-        self.table.sound();
+        self.table.fact_sound();
         raised
     }
 
@@ -122,8 +122,8 @@ impl<K: Eq + Drop, V: Drop, H: KeyHash<K>> HashMap<K, V, H> {
     pub fn try_reserve(&mut self, additional: usize) -> Result<(), AllocError>
         ensures { MakesRoom K.eq additional self.old result self.new }
     {
-        self.room.learn();
-        self.table.sound();
+        self.room.fact_fits();
+        self.table.fact_sound();
         let Some(pairs) = self.table.len().checked_add(additional) else {
             return Err(AllocError);
         };
@@ -142,10 +142,11 @@ impl<K: Eq + Drop, V: Drop, H: KeyHash<K>> HashMap<K, V, H> {
     ///
     /// Never fails. O(slots), and O(1) if there is room already.
     pub(crate) fn reserve_for(&mut self, coming: usize)
-        ensures { Stays K.eq self.old self.new }
+        ensures stays { Stays K.eq self.old self.new }
+        ensures no_fewer { self.old.slots ≤ self.new.slots }
     {
         if coming == 0 {
-            self.sound();
+            self.fact_sound();
             return;
         }
         let expected = if self.is_empty() {
@@ -169,8 +170,8 @@ impl<K: Eq + Drop, V: Drop, H: KeyHash<K>> HashMap<K, V, H> {
         ensures no_fewer { self.old.slots ≤ self.new.slots }
         ensures too_many { AreTooMany pairs → IsErr result × (self.new ≡ self.old) }
     {
-        self.room.learn();
-        self.table.sound();
+        self.room.fact_fits();
+        self.table.fact_sound();
         let slots = self.table.num_slots();
         match slots_for(pairs) {
             Some(least) => self.rehash_to(least.max(slots)),
@@ -190,8 +191,8 @@ impl<K: Eq + Drop, V: Drop, H: KeyHash<K>> HashMap<K, V, H> {
     pub fn shrink_to_fit(&mut self) -> Result<(), AllocError>
         ensures { ShrinksToFit K.eq self.old result self.new }
     {
-        self.room.learn();
-        self.table.sound();
+        self.room.fact_fits();
+        self.table.fact_sound();
         let pairs = self.table.len();
         self.table.set_minimum(0);
         if pairs == 0 {
@@ -226,8 +227,8 @@ impl<K: Eq + Drop, V: Drop, H: KeyHash<K>> HashMap<K, V, H> {
         if pairs <= self.len() {
             return self.shrink_to_fit();
         }
-        self.room.learn();
-        self.table.sound();
+        self.room.fact_fits();
+        self.table.fact_sound();
         self.table.set_minimum(0);
         let Some(slots) = slots_for(pairs) else {
             return Ok(());
@@ -249,13 +250,13 @@ impl<K: Eq + Drop, V: Drop, H: KeyHash<K>> HashMap<K, V, H> {
         ensures slots { OnOk result ((self.new.slots ≡ slots) × (self.new.old_slots ≡ 0)) }
         ensures no_fewer { self.old.slots ≤ slots → self.old.slots ≤ self.new.slots }
     {
-        self.room.learn();
-        self.table.sound();
+        self.room.fact_fits();
+        self.table.fact_sound();
         if slots > self.table.maximum_capacity() {
             return Err(AllocError);
         }
         let outcome = self.table.rehash_to(slots);
-        self.table.sound();
+        self.table.fact_sound();
         match outcome {
             Ok(()) => Ok(()),
             Err(_) => Err(AllocError),

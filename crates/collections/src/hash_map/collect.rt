@@ -19,7 +19,9 @@ impl<K: Eq + Drop, V: Drop, H: KeyHash<K>> HashMap<K, V, H> {
     /// Allocation failure: the pair that wasn't inserted is returned, those before it are in the
     /// map, and those after it are still in the iterator. The map contains no key equal to its key.
     ///
-    /// It reserves no room first, so each insertion moves no more pairs than a single one does.
+    /// It first reserves room for as many pairs as the iterator has at least, if that can be
+    /// allocated; a map that isn't empty reserves room for half of them, rounded up, since it may
+    /// contain their keys already. A loop of `upsert` reserves none, and moves a few pairs a call.
     ///
     /// O(pairs) expected, plus any resizes. Like std's `HashMap::extend`, but nothing is lost.
     pub fn try_extend<I: Iterator<Item = (K, V)>>(
@@ -31,7 +33,7 @@ impl<K: Eq + Drop, V: Drop, H: KeyHash<K>> HashMap<K, V, H> {
         ensures { PutsFrom K.eq H.hash_of I.next_gives pairs.old self.old result self.new
             pairs.new }
     {
-        self.sound();
+        self.reserve_for(pairs.size_hint().0);
         while let Some(pair) = pairs.next() {
             let (key, value) = pair;
             match self.upsert(key, value) {
@@ -43,9 +45,7 @@ impl<K: Eq + Drop, V: Drop, H: KeyHash<K>> HashMap<K, V, H> {
     }
 }
 
-/// Reserves room for as many pairs as the iterator has at least, if that can be allocated, and
-/// inserts the pairs, as `try_extend` does. A map that isn't empty reserves room for half of them,
-/// rounded up, since it may contain their keys already.
+/// Reserves room and inserts the pairs, as `try_extend` does.
 ///
 /// If allocation fails, the pair that wasn't inserted is dropped, and so are those after it;
 /// `try_extend` loses none.
@@ -54,7 +54,6 @@ impl<K: Eq + Drop, V: Drop, H: KeyHash<K>> Extend<(K, V)> for HashMap<K, V, H> {
 
     fn extend<U: IntoIterator<Item = (K, V)>>(&mut self, iter: U) -> Result<(), AllocError> {
         let mut pairs = iter.into_iter();
-        self.reserve_for(pairs.size_hint().0);
         match self.try_extend(&mut pairs) {
             Ok(()) => Ok(()),
             Err(_) => Err(AllocError),
@@ -100,7 +99,6 @@ impl<K: Eq + Hash + Drop, V: Drop> FromIterator<(K, V)> for HashMap<K, V, Defaul
     ) -> Result<HashMap<K, V, DefaultHash>, AllocError> {
         let mut pairs = iter.into_iter();
         let mut map = HashMap::new(alloc);
-        let _ = map.try_reserve(pairs.size_hint().0);
         match map.try_extend(&mut pairs) {
             Ok(()) => Ok(map),
             Err(_) => Err(AllocError),

@@ -15,7 +15,7 @@ impl<K: Eq, V: PartialEq, H: KeyHash<K>> PartialEq for HashMap<K, V, H> {
     ghost laws = { map_eq_per K.eq K.Eq.laws V.eq V.laws };
 
     fn eq(&self, other: &HashMap<K, V, H>) -> bool {
-        self.room.learn();
+        self.room.fact_fits();
         are_equal(&self.table, &other.table)
     }
 }

@@ -30,7 +30,7 @@ impl<K: Eq + Clone, V: Clone, H: KeyHash<K> + Clone> HashMap<K, V, H> {
             copy) }
         ensures succeeds { IsEmpty self.now → H.is_infallible self.now.hasher → IsOk result }
     {
-        self.room.learn();
+        self.room.fact_fits();
         let minimum = self.table.minimum_capacity();
         let hasher = self.table.hasher().clone()?;
         let mut copy = HashMap::with_room(alloc, hasher, minimum, self.len());
@@ -111,8 +111,8 @@ impl<K: Eq + Copy, V: Copy, H: KeyHash<K> + Copy> HashMap<K, V, H> {
         ensures copy { IfOk result (λ copy. IsCopy K.eq self.now copy) }
         ensures succeeds { IsEmpty self.now → IsOk result }
     {
-        self.room.learn();
-        self.table.sound();
+        self.room.fact_fits();
+        self.table.fact_sound();
         let minimum = self.table.minimum_capacity();
         let roomy = HashMap::with_room(alloc, *self.table.hasher(), minimum, self.len());
         let mut copy = Some(roomy);
@@ -157,7 +157,7 @@ impl<K: Eq, V, H: KeyHash<K> + Clone> HashMap<K, V, H> {
         ensures empty { IfOk result (λ made. made ≡ empty_map made.hasher) }
         ensures hasher { IfOk result (λ made. H.is_clone self.now.hasher made.hasher) }
     {
-        self.room.learn();
+        self.room.fact_fits();
         Ok(HashMap::with_hasher(self.allocator(), self.hasher().clone()?))
     }
 }

@@ -36,8 +36,8 @@ impl<K: Eq, V, H: KeyHash<K>> HashMap<K, V, H> {
         ensures rest { result ≡ self.now.entries }
         ensures unique { IsUnique K.eq self.now }
     {
-        self.room.learn();
-        self.table.sound();
+        self.room.fact_fits();
+        self.table.fact_sound();
         self.table.pairs()
     }
 
@@ -48,8 +48,8 @@ impl<K: Eq, V, H: KeyHash<K>> HashMap<K, V, H> {
         ensures rest { result ≡ keys_of self.now.entries }
         ensures unique { IsUnique K.eq self.now }
     {
-        self.room.learn();
-        self.table.sound();
+        self.room.fact_fits();
+        self.table.fact_sound();
         PairKeys {
             inner: self.table.pairs(),
         }
@@ -61,7 +61,7 @@ impl<K: Eq, V, H: KeyHash<K>> HashMap<K, V, H> {
     pub fn values(&self) -> Values<'_, K, V>
         ensures { result ≡ values_of self.now.entries }
     {
-        self.room.learn();
+        self.room.fact_fits();
         PairValues {
             inner: self.table.pairs(),
         }
@@ -89,7 +89,7 @@ impl<K: Eq, V, H: KeyHash<K>> HashMap<K, V, H> {
         ensures calls { CallsEach (λ state own value last. F.step state own value tt last) f.old
             self.now.entries f.new }
     {
-        self.room.learn();
+        self.room.fact_fits();
         self.table.for_each(f);
     }
 
@@ -107,7 +107,7 @@ impl<K: Eq, V, H: KeyHash<K>> HashMap<K, V, H> {
         ensures calls { CallsEach (λ state own value last. F.step state own value tt last) f.old
             (pairs_in_bucket self.now bucket) f.new }
     {
-        self.room.learn();
+        self.room.fact_fits();
         self.table.for_each_in(bucket, f)
     }
 
@@ -123,8 +123,8 @@ impl<K: Eq, V, H: KeyHash<K>> HashMap<K, V, H> {
         ensures map { self.new
             ≡ record self.old { entries = []; slots = 0; old_slots = 0; bucket_lens = [] } }
     {
-        self.room.learn();
-        self.table.sound();
+        self.room.fact_fits();
+        self.table.fact_sound();
         self.table.drain()
     }
 
@@ -163,8 +163,8 @@ impl<K: Eq, V, H: KeyHash<K>> HashMap<K, V, H> {
         ensures left { result.left ≡ pairs_of result.arrays }
         ensures hasher { self.new.hasher ≡ self.old.hasher }
     {
-        self.room.learn();
-        self.table.sound();
+        self.room.fact_fits();
+        self.table.fact_sound();
         self.table.extract()
     }
 }
@@ -246,7 +246,7 @@ impl<K: Eq, V, H: KeyHash<K>> PutBack<HashMap<K, V, H>> for TableExtract<K, V, (
     ghost after = { λ map taken. map_of (record { hasher = map.hasher; arrays = taken.arrays }) };
 
     fn put_back(&mut self, to: &mut HashMap<K, V, H>) {
-        to.room.learn();
+        to.room.fact_fits();
         to.table.restore(self);
     }
 }

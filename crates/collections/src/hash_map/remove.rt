@@ -29,7 +29,7 @@ impl<K: Eq + Drop, V: Drop, H: KeyHash<K>> HashMap<K, V, H> {
             (λ own value answer. F.post condition own value answer) self.old result self.new }
         ensures slots { LosesSlots (is_some result) self.old self.new }
     {
-        self.room.learn();
+        self.room.fact_fits();
         if asks(&self.table, key, condition) {
             self.remove(key)
         } else {
@@ -64,8 +64,8 @@ impl<K: Eq + Drop, V: Drop, H: KeyHash<K>> HashMap<K, V, H> {
             (λ state own before answer after last. F.step state own before answer after last)
             f.old self.old self.new f.new }
     {
-        self.room.learn();
+        self.room.fact_fits();
         let _ = self.table.retain(f, &());
-        self.table.sound();
+        self.table.fact_sound();
     }
 }

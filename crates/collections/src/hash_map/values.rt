@@ -10,7 +10,7 @@ ghost use Rattle.collections.specs.Hashes.{HaveHash};
 ghost use Rattle.collections.specs.Slots.{LosesSlots, KeepsSlots};
 ghost use Rattle.collections.specs.SetChanges.{SwapsKey};
 
-use crate::calling::{called_with, learn_asks};
+use crate::calling::{called_with, fact_asks};
 use crate::hash_map::HashMap;
 use crate::key_form::{FormProbe, KeyForm, pair_by, value_hashed};
 use bucket_table::hash_table::ResizeRule;
@@ -29,16 +29,16 @@ impl<K: Eq, V, H: KeyHash<K>> HashMap<K, V, H> {
         ensures value { option_map (λ pair. pair.1.now) result
             ≡ get_by (Q.stands_for key) self.now }
     {
-        self.room.learn();
+        self.room.fact_fits();
         pair_by(&self.table, key)
     }
 
     /// States that no two keys are equal. Does nothing at run time.
-    pub(crate) fn sound(&self)
+    pub(crate) fn fact_sound(&self)
         ensures { IsUnique K.eq self.now }
     {
-        self.room.learn();
-        self.table.sound();
+        self.room.fact_fits();
+        self.table.fact_sound();
     }
 
     /// Returns the value under the keys that a form stands for, which have this hash; `None` if the
@@ -50,7 +50,7 @@ impl<K: Eq, V, H: KeyHash<K>> HashMap<K, V, H> {
         requires hashed { HaveHash (Q.stands_for key) (H.hash_of self.now.hasher) hash }
         ensures { option_copied result ≡ get_by (Q.stands_for key) self.now }
     {
-        self.room.learn();
+        self.room.fact_fits();
         value_hashed(&self.table, hash, key)
     }
 }
@@ -118,7 +118,7 @@ impl<K: Eq + Drop, V: Drop, H: KeyHash<K>> HashMap<K, V, H> {
             ensures { (result ≡ true) × Calls (λ own before after.
                 F.step f.entry.now own before tt after f.exit.now) key.now value.old value.new }
         { called_with(f, key, value) };
-        learn_asks(&keep);
+        fact_asks(&keep);
         self.retain_ref(&mut keep);
     }
 
@@ -134,8 +134,8 @@ impl<K: Eq + Drop, V: Drop, H: KeyHash<K>> HashMap<K, V, H> {
             result) }
         ensures value { option_copied_mut result ≡ get_by (Q.stands_for key) self.old }
     {
-        self.room.learn();
-        self.table.sound();
+        self.room.fact_fits();
+        self.table.fact_sound();
         self.table
             .get_mut_by(hash, &mut FormProbe::<Q, H>::new(key))
     }
@@ -155,8 +155,8 @@ impl<K: Eq + Drop, V: Drop, H: KeyHash<K>> HashMap<K, V, H> {
         ensures written { (value : V) → Holds K.eq (Q.stands_for key) self.old result.now value
             (map_with_value (Q.stands_for key) self.old value) }
     {
-        self.room.learn();
-        self.table.sound();
+        self.room.fact_fits();
+        self.table.fact_sound();
         match self.table.spot_by(hash, &mut FormProbe::<Q, H>::new(key)) {
             Some(spot) => self.table.entry_mut_at(spot.side, spot.index, &spot.at).1,
             None => unreachable!(),
@@ -173,10 +173,10 @@ impl<K: Eq + Drop, V: Drop, H: KeyHash<K>> HashMap<K, V, H> {
         ensures map { Removes K.eq (Q.stands_for key) self.old result self.new }
         ensures slots { LosesSlots (is_some result) self.old self.new }
     {
-        self.room.learn();
-        self.table.sound();
+        self.room.fact_fits();
+        self.table.fact_sound();
         let taken = self.table.take_by(hash, &mut FormProbe::<Q, H>::new(key), ResizeRule::Counted);
-        self.table.sound();
+        self.table.fact_sound();
         taken
     }
 }
@@ -190,10 +190,10 @@ impl<K: Eq + Drop, H: KeyHash<K>> HashMap<K, (), H> {
         ensures keys { SwapsKey K.eq key self.old result self.new }
         ensures slots { KeepsSlots self.old self.new }
     {
-        self.room.learn();
-        self.table.sound();
+        self.room.fact_fits();
+        self.table.fact_sound();
         let outcome = self.table.replace(key, ());
-        self.table.sound();
+        self.table.fact_sound();
         match outcome {
             Ok((own, ())) => Ok(own),
             Err((back, ())) => Err(back),

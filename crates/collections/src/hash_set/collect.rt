@@ -19,7 +19,9 @@ impl<K: Eq + Drop, H: KeyHash<K>> HashSet<K, H> {
     /// Allocation failure: the key that wasn't inserted is returned, those before it are in the
     /// set, and those after it are still in the iterator. The set contains no key equal to it.
     ///
-    /// It reserves no room first, so each insertion moves no more keys than a single one does.
+    /// It first reserves room for as many keys as the iterator has at least, if that can be
+    /// allocated; a set that isn't empty reserves room for half of them, rounded up, since it may
+    /// contain them already. A loop of `insert` reserves none, and moves a few keys a call.
     ///
     /// O(keys) expected, plus any resizes. Like std's `HashSet::extend`, but nothing is lost.
     pub fn try_extend<I: Iterator<Item = K>>(&mut self, keys: &mut I) -> Result<(), AllocFailed<K>>
@@ -28,7 +30,7 @@ impl<K: Eq + Drop, H: KeyHash<K>> HashSet<K, H> {
         ensures { PutsKeysFrom K.eq H.hash_of I.next_gives keys.old self.old result self.new
             keys.new }
     {
-        self.map.sound();
+        self.reserve_for(keys.size_hint().0);
         while let Some(key) = keys.next() {
             match self.insert(key) {
                 Ok(_added) => {}
@@ -39,9 +41,7 @@ impl<K: Eq + Drop, H: KeyHash<K>> HashSet<K, H> {
     }
 }
 
-/// Reserves room for as many keys as the iterator has at least, if that can be allocated, and
-/// inserts the keys, as `try_extend` does. A set that isn't empty reserves room for half of them,
-/// rounded up, since it may contain them already.
+/// Reserves room and inserts the keys, as `try_extend` does.
 ///
 /// If allocation fails, the key that wasn't inserted is dropped, and so are those after it;
 /// `try_extend` loses none.
@@ -50,7 +50,6 @@ impl<K: Eq + Drop, H: KeyHash<K>> Extend<K> for HashSet<K, H> {
 
     fn extend<U: IntoIterator<Item = K>>(&mut self, iter: U) -> Result<(), AllocError> {
         let mut keys = iter.into_iter();
-        self.reserve_for(keys.size_hint().0);
         match self.try_extend(&mut keys) {
             Ok(()) => Ok(()),
             Err(_) => Err(AllocError),
@@ -91,7 +90,6 @@ impl<K: Eq + Hash + Drop> FromIterator<K> for HashSet<K, DefaultHash> {
     ) -> Result<HashSet<K, DefaultHash>, AllocError> {
         let mut keys = iter.into_iter();
         let mut set = HashSet::new(alloc);
-        let _ = set.try_reserve(keys.size_hint().0);
         match set.try_extend(&mut keys) {
             Ok(()) => Ok(set),
             Err(_) => Err(AllocError),

@@ -9,7 +9,7 @@ ghost use Rattle.bucket_table.specs.Views.ArraysView.{IsOneMap};
 ghost use Rattle.bucket_table.specs.Walking.Extracting.{Extracts};
 ghost use Rattle.collections.specs.Extracting.{AsksKey};
 
-use crate::calling::learn_asks;
+use crate::calling::fact_asks;
 use crate::draining::DrainKeys;
 use crate::extracting::{Extraction, PutBack};
 use crate::hash_map::{HashMap, IntoKeys, Keys};
@@ -247,6 +247,6 @@ fn next_key<K: Drop, F: FnMut(&K) -> bool>(
         requires { F.IsAlwaysCallable test.now }
         ensures { CalledAt F.FnMut test.entry.now key.now result test.exit.now }
     { test(key) };
-    learn_asks(&pick);
+    fact_asks(&pick);
     taken.extract_next(&mut pick)
 }

@@ -23,7 +23,7 @@ impl<K: Eq + Clone, H: KeyHash<K>> HashSet<K, H> {
         ensures { OnOk result
             (PutsClonesFrom K.eq K.is_clone I.next_gives keys.old self.old self.new) }
     {
-        self.map.sound();
+        self.map.fact_sound();
         while let Some(key) = keys.next() {
             self.put_clone(key)?;
         }

@@ -190,7 +190,7 @@ fn hand_out(
     let mut left = map.drain();
     let held = first_of(alloc, &mut left, handed_out);
     let found = (Rc::strong_count(counted), map.len());
-    check_same(rt, found, (64, 0), (handed_out, "amid the drain"));
+    check_same(rt, found, (64, 0), (handed_out, "during drain"));
     drop(left);
     let wanted = handed_out.saturating_add(1);
     check_same(rt, Rc::strong_count(counted), wanted, (handed_out, "held"));

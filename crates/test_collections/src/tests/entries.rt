@@ -47,27 +47,27 @@ pub(super) struct Story {
 }
 
 const STORIES: &[Story] = steps! {
-    Story { name: "a value is put once, and then it is the one that is lent",
+    Story { name: "a value is inserted once, and is then the one that is lent",
         hasher: ScriptHash::Id, steps: steps! {
             InsertAndAddOne(1, 10, 11), InsertAndAddOne(1, 10, 12), InsertAndAddOne(2, 0, 1),
             Expect(Value(1, Some(12))), Expect(Value(2, Some(1))), Expect(Len(2)) } },
-    Story { name: "what is there is modified, and what isn't is put",
+    Story { name: "a present value is modified, and a missing one is inserted",
         hasher: ScriptHash::Id, steps: steps! {
             DoubleOrInsert(3, 5, 5), DoubleOrInsert(3, 6, 10), DoubleOrInsert(3, 7, 20),
             DoubleOrInsert(4, 8, 8), OrInsertWithKey(3, 20), OrInsertWithKey(5, 10),
             Expect(Value(3, Some(20))), Expect(Len(3)) } },
-    Story { name: "an occupied place is written and taken, a vacant one stays",
+    Story { name: "an occupied entry is written and removed, a vacant one stays vacant",
         hasher: ScriptHash::Id, steps: steps! {
             Replace(1, 10, None), Remove(1, None), Expect(Len(0)), InsertAndAddOne(1, 4, 5),
             Replace(1, 10, Some(5)), Replace(1, 11, Some(10)), Remove(1, Some((1, 11))),
             Remove(1, None), Expect(Value(1, None)), Expect(Len(0)) } },
-    Story { name: "places amid a growth are those of the pairs where they are",
+    Story { name: "entries during a growth find pairs in either array",
         hasher: ScriptHash::Spread, steps: steps! {
             InsertRange(0..31), InsertRange(128..159), InsertRange(31..32), Expect(Len(63)),
             InsertAndAddOne(5, 0, 6), InsertAndAddOne(158, 0, 159), Replace(130, 1, Some(130)),
             Remove(7, Some((7, 7))), DoubleOrInsert(40, 9, 9), Expect(Value(4, Some(4))),
             Expect(Value(5, Some(6))), Expect(Value(130, Some(1))), Expect(Len(63)) } },
-    Story { name: "keys of one hash have places of their own",
+    Story { name: "keys with equal hashes have separate entries",
         hasher: ScriptHash::Zero, steps: steps! {
             InsertRange(0..80), InsertAndAddOne(79, 0, 80), InsertAndAddOne(80, 0, 1),
             Remove(40, Some((40, 40))), InsertAndAddOne(40, 3, 4), Expect(Value(79, Some(80))),

@@ -1,5 +1,5 @@
-//! Pairs of an iterator that are inserted into a map, and their keys into a set, before, during and
-//! after a growth. And a map and a set that are made of them.
+//! Pairs of an iterator that are inserted into a map, and their keys into a set, before and after a
+//! growth. And a map and a set that are made of them.
 use super::check_same;
 use super::maps::Map;
 use super::sets::Set;
@@ -25,8 +25,7 @@ enum Step {
     ExpectCounts(usize, usize),
 }
 
-// Of two buckets the first has the keys below 128. It has 31 pairs when key 31 is inserted, and
-// both grow.
+// 64 slots have room for 52 pairs. Calls that bring one or four pairs reserve room for one or two.
 const STEPS: &[Step] = steps! {
     ExtendBy(&[]), ExpectCounts(0, 0), ExtendBy(&[(1, 10)]), ExpectCounts(1, 64),
     ExpectValue(1, Some(10)), ExpectValue(2, None), ExtendBy(&[(2, 20), (1, 11), (3, 30), (1, 12)]),

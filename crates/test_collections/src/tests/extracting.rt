@@ -52,9 +52,9 @@ fn picked_keys_come_and_the_others_stay(rt: HostRuntime) -> Result<(), Fail> {
         let mut map = map_of(rt.alloc(), row.hasher, row.keys);
         let slots = map.capacity();
         let found = taken(rt.alloc(), &mut map, row.picks, usize::MAX);
-        check_listed(&rt, rt.alloc(), found, row.gone, (row.name, "gone"));
+        check_listed(&rt, rt.alloc(), found, row.gone, (row.name, "removed"));
         let (left, asked) = sorted_out(rt.alloc(), &map);
-        check_same(&rt, asked, map.len(), (row.name, "asked"));
+        check_same(&rt, asked, map.len(), (row.name, "calls"));
         check_listed(&rt, rt.alloc(), left, row.left, (row.name, "left"));
         check_same(&rt, map.capacity(), slots, (row.name, "slots"));
     }
@@ -70,7 +70,7 @@ fn picked_keys_of_a_set_come_and_the_others_stay(rt: HostRuntime) -> Result<(), 
         for key in set.extract_if(move |key: &u64| leaves(*key, by, rest)) {
             let _ = gone.push(key);
         }
-        check_listed(&rt, rt.alloc(), gone, row.gone, (row.name, "gone"));
+        check_listed(&rt, rt.alloc(), gone, row.gone, (row.name, "removed"));
         let mut left = Vec::new(rt.alloc());
         for key in &set {
             let _ = left.push(*key);
@@ -102,7 +102,7 @@ fn what_is_not_asked_for_stays_as_it_was(rt: HostRuntime) -> Result<(), Fail> {
         );
         let (_, asked) = sorted_out(rt.alloc(), &map);
         check_same(&rt, asked <= count.saturating_add(1), true, (count, asked));
-        check_same(&rt, fill(&mut map, &(1000..1010)), true, (count, "goes on"));
+        check_same(&rt, fill(&mut map, &(1000..1010)), true, (count, "filled"));
     }
     Ok(())
 }

@@ -31,6 +31,8 @@ enum Step {
     RemoveIfAbove(u64, u64, bool),
     /// Remove keys, which are present.
     RemoveRange(Range<u64>),
+    /// Insert and remove an absent key, this many times.
+    Alternate(u64, usize),
     /// Remove the pairs with odd keys.
     RetainEven,
     /// Remove all pairs.
@@ -71,54 +73,61 @@ const MOST: usize = 1 << 63;
 // Under the hash that spreads low bytes, the first of two buckets has the keys below 128. The table
 // grows when that bucket is full, and key 255 is always in the last bucket.
 const STORIES: &[Story] = steps! {
-    Story { name: "an insertion gives the pair back where the key is there",
+    Story { name: "an insertion of a present key returns the pair",
         hasher: ScriptHash::Id, capacity: 0, steps: steps! {
             Expect(Slots(0)), Expect(Value(1, None)), Insert(1, 10), InsertPresent(1, 11),
             Expect(Value(1, Some(10))), Expect(Value(2, None)), Insert(2, 10), Expect(Len(2)),
             Expect(Slots(64)) } },
-    Story { name: "a removal finds a pair once", hasher: ScriptHash::Id, capacity: 0,
+    Story { name: "a pair is removed once", hasher: ScriptHash::Id, capacity: 0,
         steps: steps! {
             Remove(1, false), Expect(Len(0)), Insert(1, 10), Insert(2, 20), Remove(1, true),
             Remove(1, false), Expect(Value(1, None)), Expect(Value(2, Some(20))), Expect(Len(1)),
             Remove(2, true), Remove(2, false), Expect(Len(0)) } },
-    Story { name: "a removal hands its pair over once", hasher: ScriptHash::Id, capacity: 0,
+    Story { name: "remove_with passes its pair once", hasher: ScriptHash::Id, capacity: 0,
         steps: steps! {
             RemoveWith(1, None), Insert(1, 10), Insert(2, 20), RemoveWith(1, Some((1, 10))),
             RemoveWith(1, None), Remove(1, false), Expect(Value(1, None)), Expect(Len(1)),
             Remove(2, true), RemoveWith(2, None), Expect(Len(0)) } },
-    Story { name: "a pair is removed if its value is what is asked for", hasher: ScriptHash::Id,
+    Story { name: "remove_if removes a pair only if its value passes", hasher: ScriptHash::Id,
         capacity: 0, steps: steps! {
             RemoveIfAbove(1, 0, false), Insert(1, 10), Insert(2, 20), RemoveIfAbove(1, 10, false),
             RemoveIfAbove(3, 0, false), Expect(Value(1, Some(10))), Expect(Len(2)),
             RemoveIfAbove(1, 9, true), RemoveIfAbove(1, 0, false), Expect(Value(1, None)),
             Expect(Len(1)), Remove(2, true), RemoveIfAbove(2, 0, false), Insert(2, 21),
             RemoveIfAbove(2, 20, true), Expect(Len(0)) } },
-    Story { name: "a removed key comes again with another value", hasher: ScriptHash::Id,
+    Story { name: "a removed key is inserted again", hasher: ScriptHash::Id,
         capacity: 0, steps: steps! {
             Insert(1, 10), Insert(2, 20), Remove(1, true), Insert(1, 11),
             Expect(Value(1, Some(11))), Expect(Len(2)), InsertPresent(1, 12),
             RemoveWith(1, Some((1, 11))), Expect(Value(1, None)), Insert(1, 13),
             Expect(Value(1, Some(13))), Expect(Len(2)) } },
     // A bucket of 48 pairs doubles the slots while there is a pair for each 8: 64 make 1,024.
-    Story { name: "keys of one hash make a chain", hasher: ScriptHash::Zero, capacity: 0,
+    Story { name: "keys with equal hashes make a chain", hasher: ScriptHash::Zero, capacity: 0,
         steps: steps! {
             InsertRange(0..100), Expect(Slots(1024)), Expect(Len(100)), Remove(50, true),
             Expect(Value(50, None)), RemoveWith(99, Some((99, 99))), InsertPresent(98, 1),
             Insert(50, 5), Expect(Value(50, Some(5))), Expect(Len(99)), RemoveRange(51..99),
             Expect(Len(51)), Remove(50, true), Expect(Len(50)), Expect(Value(49, Some(49))) } },
-    Story { name: "pairs that aren't kept are gone, and their keys come again",
+    // 33 keys of one bucket: the last one is in the chain, where each removal leaves a tombstone.
+    // The 29th makes the eighth block. Of 256 slots, key 40 has a bucket without the others.
+    Story { name: "the slots double where tombstones fill a chain", hasher: ScriptHash::Spread,
+        capacity: 0, steps: steps! {
+            InsertRange(0..32), Alternate(40, 29), Expect(Slots(64)), Alternate(40, 1),
+            Expect(Slots(128)), Alternate(40, 1000), Expect(Slots(256)), Expect(Len(32)),
+            Expect(Value(31, Some(31))), Expect(Value(40, None)) } },
+    Story { name: "keys removed by retain are inserted again",
         hasher: ScriptHash::Zero, capacity: 0, steps: steps! {
             RetainEven, Expect(Len(0)), InsertRange(0..40), RetainEven, Expect(Len(20)),
             Expect(Value(1, None)), Expect(Value(0, Some(0))), Expect(Value(38, Some(38))),
             Remove(39, false), Insert(1, 11), Expect(Value(1, Some(11))), RetainEven,
             Expect(Value(1, None)), Expect(Len(20)), Insert(1, 12), Expect(Len(21)),
             Expect(Slots(64)) } },
-    Story { name: "pairs of both arrays are asked for amid a growth", hasher: ScriptHash::Spread,
+    Story { name: "retain visits both arrays during a growth", hasher: ScriptHash::Spread,
         capacity: 0, steps: steps! {
             InsertRange(0..31), InsertRange(128..159), Insert(31, 31), Expect(Slots(128)),
             Expect(Len(63)), RetainEven, Expect(Len(32)), Expect(Value(5, None)),
             Expect(Value(158, Some(158))), Remove(5, false), Insert(5, 50), Expect(Len(33)) } },
-    Story { name: "pairs are the same before, amid and after a growth",
+    Story { name: "pairs are the same before, during and after a growth",
         hasher: ScriptHash::Spread, capacity: 0, steps: steps! {
             InsertRange(0..31), InsertRange(128..159), Expect(Slots(64)), Expect(Len(62)),
             Insert(31, 31), Expect(Slots(128)), Expect(Len(63)), Expect(Value(5, Some(5))),
@@ -127,14 +136,14 @@ const STORIES: &[Story] = steps! {
             Expect(Value(5, None)), Expect(Value(158, None)), Expect(Value(6, Some(6))),
             Insert(5, 50), Expect(Value(5, Some(50))), Expect(Len(62)) } },
     // Three tombstones are in the array when it is dropped.
-    Story { name: "what is removed before a growth doesn't come again",
+    Story { name: "a pair removed before a growth doesn't reappear after it",
         hasher: ScriptHash::Spread, capacity: 0, steps: steps! {
             InsertRange(0..31), InsertRange(128..159), Remove(0, true), Remove(9, true),
             Remove(130, true), Insert(9, 90), Resize(RaiseMinimum(256, 256)), Expect(Slots(256)),
             Expect(Len(60)), Expect(Value(0, None)), Expect(Value(9, Some(90))), Remove(0, false),
             InsertPresent(9, 91), Expect(Slots(256)), Expect(Len(60)), Insert(0, 1), Insert(130, 1),
             Expect(Len(62)) } },
-    Story { name: "a minimum is raised, and given back", hasher: ScriptHash::Spread, capacity: 100,
+    Story { name: "a raised minimum is reset", hasher: ScriptHash::Spread, capacity: 100,
         steps: steps! {
             Resize(RaiseMinimum(28, 28)), Expect(Slots(0)), Insert(255, 255), Expect(Slots(128)),
             Resize(RaiseMinimum(3968, 3968)), Expect(Slots(4096)), Expect(Len(1)),
@@ -180,6 +189,7 @@ fn take(rt: &impl Abort, index: &mut Index, at: At, step: &Step) {
             check_same(rt, remove_above(index, *key, *floor), *gone, at);
         }
         RemoveRange(keys) => check_same(rt, remove_range(index, keys), true, at),
+        Alternate(key, rounds) => check_same(rt, alternate(index, *key, *rounds), true, at),
         RetainEven => index.retain(&mut is_even),
         Clear => index.clear(),
         Resize(call) => check_resize(rt, index, at, call),
@@ -218,6 +228,16 @@ fn remove_range(index: &mut Index, keys: &Range<u64>) -> bool {
         were_there = index.remove(&key) && were_there;
     }
     were_there
+}
+
+// Inserts and removes a key, so many times. Returns whether each call did so.
+fn alternate(index: &mut Index, key: u64, rounds: usize) -> bool {
+    for _ in 0..rounds {
+        if index.insert(key, key).is_err() || !index.remove(&key) {
+            return false;
+        }
+    }
+    true
 }
 
 fn is_even(own: &u64, _value: &u64) -> bool {

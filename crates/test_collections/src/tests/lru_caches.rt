@@ -14,41 +14,41 @@ use test_helpers::steps;
 // green 30.
 pub(super) const STORIES: &[Story] = steps! {
     // test_put_and_get
-    Story { name: "what is put is got", hasher: ScriptHash::Zero, made: Within(0, 256),
+    Story { name: "get returns what was put", hasher: ScriptHash::Zero, made: Within(0, 256),
         steps: steps! {
             Expect(Len(0)), Upsert(1, 10, None), Upsert(2, 20, None), Expect(Len(2)),
             Get(1, Some(10)), Get(2, Some(20)) } },
     // test_put_and_get_or_insert, 2 pairs
-    Story { name: "a value is made where none is there", hasher: ScriptHash::Zero,
+    Story { name: "only a missing value is made", hasher: ScriptHash::Zero,
         made: Within(0, 256), steps: steps! {
             UpsertRange(100..130), Upsert(1, 10, None), Upsert(2, 20, None), Expect(Len(32)),
             GetOrInsert(1, 10, None), GetOrInsert(2, 20, None), GetRange(100..130),
             GetOrInsert(4, 1004, Some((1, 10))), GetOrInsert(4, 1004, None), Expect(Len(32)) } },
     // test_get_mut_and_update
-    Story { name: "a value that is lent is written", hasher: ScriptHash::Zero, made: Within(0, 256),
+    Story { name: "a lent value is written", hasher: ScriptHash::Zero, made: Within(0, 256),
         steps: steps! {
             Upsert(1, 1, None), Upsert(2, 3, None), Write(ByGetMut(1, 4, Some(1))), Expect(Len(2)),
             Write(ByGetMut(1, 4, Some(4))), Write(ByGetMut(2, 3, Some(3))) } },
     // test_put_update
-    Story { name: "a second value takes the place of the first", hasher: ScriptHash::Zero,
+    Story { name: "a second value replaces the first", hasher: ScriptHash::Zero,
         made: Within(0, 256), steps: steps! {
             Upsert(1, 10, None), UpsertPresent(1, 30, 10), Expect(Len(1)), Get(1, Some(30)) } },
     // test_put_removes_oldest, 2 pairs
-    Story { name: "the oldest goes, and comes again as a new one", hasher: ScriptHash::Zero,
+    Story { name: "the oldest is evicted, and inserted again", hasher: ScriptHash::Zero,
         made: Within(0, 256), steps: steps! {
             UpsertRange(100..130), Upsert(1, 10, None), Upsert(2, 20, None), GetRange(100..130),
             Upsert(3, 30, Some((1, 10))), Get(1, None), Get(2, Some(20)), Get(3, Some(30)),
             GetRange(100..130), Upsert(1, 30, Some((2, 20))), GetRange(100..130),
             Upsert(5, 10, Some((3, 30))), Get(3, None), Get(1, Some(30)), Get(5, Some(10)) } },
     // test_peek, test_contains, 2 pairs
-    Story { name: "a look touches no pair", hasher: ScriptHash::Zero, made: Within(0, 256),
+    Story { name: "a peek touches no pair", hasher: ScriptHash::Zero, made: Within(0, 256),
         steps: steps! {
             UpsertRange(100..130), Upsert(1, 10, None), Upsert(2, 20, None),
             Expect(Value(2, Some(20))), Expect(Value(1, Some(10))), GetRange(100..130),
             Upsert(3, 30, Some((1, 10))), Expect(Value(1, None)), Expect(Value(2, Some(20))),
             Expect(Value(3, Some(30))) } },
     // test_peek_mut, 2 pairs
-    Story { name: "a peek that lends touches no pair", hasher: ScriptHash::Zero,
+    Story { name: "peek_mut touches no pair", hasher: ScriptHash::Zero,
         made: Within(0, 256), steps: steps! {
             UpsertRange(100..130), Upsert(1, 10, None), Upsert(2, 20, None),
             Write(ByPeekMut(2, 20, Some(20))), Write(ByPeekMut(1, 10, Some(10))),
@@ -63,27 +63,27 @@ pub(super) const STORIES: &[Story] = steps! {
             Get(2, Some(20)), Remove(1, Some((1, 10))), Expect(Len(1)), Get(1, None),
             Get(2, Some(20)), Remove(1, None), Expect(Len(1)) } },
     // test_iter_forwards
-    Story { name: "a walk by use begins with the pair touched last", hasher: ScriptHash::Zero,
+    Story { name: "iter_by_use begins with the newest pair", hasher: ScriptHash::Zero,
         made: Within(0, 256), steps: steps! {
             Expect(ByUse(&[])), UpsertRange(1..4), Expect(Len(3)), Expect(ByUse(&[3, 2, 1])) } },
     // test_resize_larger, 2 pairs that become 4: of one home of four buckets, and of another
-    Story { name: "a greater cache takes more pairs", hasher: ScriptHash::Spread,
+    Story { name: "a larger cache holds more pairs", hasher: ScriptHash::Spread,
         made: Sized(64), steps: steps! {
             UpsertRange(30..62), Upsert(64, 1, Some((30, 30))), Upsert(65, 2, Some((31, 31))),
             Resize(128), Upsert(66, 3, None), Upsert(67, 4, None), Expect(Len(34)),
             Get(64, Some(1)), Get(65, Some(2)), Get(66, Some(3)), Get(67, Some(4)) } },
     // test_resize_smaller, 4 pairs of which 2 are evicted
-    Story { name: "a smaller cache lets the oldest pairs go", hasher: ScriptHash::Spread,
+    Story { name: "a smaller cache evicts the oldest pairs", hasher: ScriptHash::Spread,
         made: Sized(128), steps: steps! {
             UpsertRange(0..4), UpsertRange(64..94), Resize(64), Expect(Len(32)), Get(0, None),
             Get(1, None), Get(2, Some(2)), Get(3, Some(3)) } },
     // test_clear
-    Story { name: "a cleared cache has no pair", hasher: ScriptHash::Zero, made: Within(0, 256),
+    Story { name: "a cleared cache is empty", hasher: ScriptHash::Zero, made: Within(0, 256),
         steps: steps! {
             Upsert(1, 10, None), Upsert(2, 20, None), Expect(Len(2)), Get(1, Some(10)),
             Get(2, Some(20)), Clear, Expect(Len(0)), Get(1, None) } },
     // test_that_pop_actually_detaches_node, 5 pairs
-    Story { name: "a popped pair leaves the order of the others", hasher: ScriptHash::Zero,
+    Story { name: "popping a pair keeps the others' order", hasher: ScriptHash::Zero,
         made: Within(0, 256), steps: steps! {
             UpsertRange(100..127), UpsertRange(1..6), Remove(3, Some((3, 3))), Upsert(6, 6, None),
             Expect(Len(32)), GetRange(100..127), Upsert(7, 1, Some((1, 1))),

@@ -190,9 +190,9 @@ fn check_resize(rt: &impl Abort, map: &mut Map, at: At, call: &Resize) {
 }
 
 // Why a pair is returned.
-const IS_THERE: &str = "its key is there";
+const IS_THERE: &str = "its key is present";
 
-const NO_MEMORY: &str = "there is no memory";
+const NO_MEMORY: &str = "allocation failed";
 
 // Inserts a pair. Returns why it failed, and the pair.
 fn insert(map: &mut Map, key: u64, value: u64) -> Result<(), (&'static str, u64, u64)> {

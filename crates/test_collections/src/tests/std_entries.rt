@@ -8,10 +8,10 @@ use test_helpers::steps;
 
 pub(super) const STORIES: &[Story] = steps! {
     // test_empty_entry
-    Story { name: "a place in an empty map is vacant", hasher: ScriptHash::Id, steps: steps! {
+    Story { name: "an entry of an empty map is vacant", hasher: ScriptHash::Id, steps: steps! {
         Replace(0, 9, None), DoubleOrInsert(0, 1, 1), Expect(Len(1)) } },
     // test_entry
-    Story { name: "places are seen, written, taken and filled", hasher: ScriptHash::Id,
+    Story { name: "entries are read, written, removed, inserted", hasher: ScriptHash::Id,
         steps: steps! {
             DoubleOrInsert(1, 10, 10), DoubleOrInsert(2, 20, 20), DoubleOrInsert(3, 30, 30),
             DoubleOrInsert(4, 40, 40), DoubleOrInsert(5, 50, 50), DoubleOrInsert(6, 60, 60),
@@ -19,11 +19,11 @@ pub(super) const STORIES: &[Story] = steps! {
             Remove(3, Some((3, 30))), Expect(Value(3, None)), Expect(Len(5)),
             DoubleOrInsert(10, 1000, 1000), Expect(Value(10, Some(1000))), Expect(Len(6)) } },
     // test_occupied_entry_key, test_vacant_entry_key
-    Story { name: "a place knows its key", hasher: ScriptHash::Id, steps: steps! {
+    Story { name: "an entry returns its key", hasher: ScriptHash::Id, steps: steps! {
         Expect(Len(0)), Expect(Key(7)), Expect(Len(0)), DoubleOrInsert(7, 70, 70), Expect(Len(1)),
         Expect(Value(7, Some(70))), Expect(Key(7)), Expect(Len(1)), Expect(Value(7, Some(70))) } },
     // test_entry_take_doesnt_corrupt
-    Story { name: "a key that is taken leaves the others", hasher: ScriptHash::Spread,
+    Story { name: "removing a key keeps the others", hasher: ScriptHash::Spread,
         steps: steps! {
             InsertRange(0..20), Remove(13, Some((13, 13))), Expect(Len(19)),
             Remove(0, Some((0, 0))), Expect(Len(18)), Remove(13, None), Expect(Len(18)),

@@ -13,16 +13,16 @@ use test_helpers::steps;
 
 pub(super) const STORIES: &[Story] = steps! {
     // test_create_capacity_zero
-    Story { name: "a map that was made for none takes a pair", hasher: ScriptHash::Id,
+    Story { name: "a map of capacity 0 takes a pair", hasher: ScriptHash::Id,
         minimum: 0, steps: steps! {
             Upsert(1, 1, None), Expect(Value(1, Some(1))), Expect(Value(0, None)) } },
     // test_insert
-    Story { name: "pairs are counted as they come", hasher: ScriptHash::Id, minimum: 0,
+    Story { name: "pairs are counted as inserted", hasher: ScriptHash::Id, minimum: 0,
         steps: steps! {
             Expect(Len(0)), Upsert(1, 2, None), Expect(Len(1)), Upsert(2, 4, None), Expect(Len(2)),
             Expect(Value(1, Some(2))), Expect(Value(2, Some(4))) } },
     // test_empty_remove, test_empty_iter
-    Story { name: "an empty map gives nothing", hasher: ScriptHash::Id, minimum: 0,
+    Story { name: "an empty map returns nothing", hasher: ScriptHash::Id, minimum: 0,
         steps: steps! { Remove(0, None), Expect(Len(0)) } },
     // test_find_mut
     Story { name: "the value of one key is written", hasher: ScriptHash::Id, minimum: 0,
@@ -35,32 +35,32 @@ pub(super) const STORIES: &[Story] = steps! {
             Upsert(1, 2, None), Expect(Value(1, Some(2))), Upsert(1, 3, Some(2)),
             Expect(Value(1, Some(3))) } },
     // test_insert_conflicts
-    Story { name: "keys of one home keep their values", hasher: ScriptHash::Zero, minimum: 4,
+    Story { name: "colliding keys keep their values", hasher: ScriptHash::Zero, minimum: 4,
         steps: steps! {
             Upsert(1, 2, None), Upsert(5, 3, None), Upsert(9, 4, None), Expect(Value(9, Some(4))),
             Expect(Value(5, Some(3))), Expect(Value(1, Some(2))) } },
     // test_conflict_remove
-    Story { name: "a key goes and those of its home stay", hasher: ScriptHash::Zero, minimum: 4,
+    Story { name: "removing a key keeps colliding ones", hasher: ScriptHash::Zero, minimum: 4,
         steps: steps! {
             Upsert(1, 2, None), Expect(Value(1, Some(2))), Upsert(5, 3, None),
             Expect(Value(1, Some(2))), Expect(Value(5, Some(3))), Upsert(9, 4, None),
             Expect(Value(1, Some(2))), Expect(Value(5, Some(3))), Expect(Value(9, Some(4))),
             Remove(1, Some((1, 2))), Expect(Value(9, Some(4))), Expect(Value(5, Some(3))) } },
     // test_is_empty
-    Story { name: "a map is empty once its pair has gone", hasher: ScriptHash::Id, minimum: 4,
+    Story { name: "a map is empty after a removal", hasher: ScriptHash::Id, minimum: 4,
         steps: steps! {
             Upsert(1, 2, None), Expect(Len(1)), Remove(1, Some((1, 2))), Expect(Len(0)) } },
     // test_remove, test_remove_entry
-    Story { name: "a pair is taken out once", hasher: ScriptHash::Id, minimum: 0, steps: steps! {
+    Story { name: "a pair is removed once", hasher: ScriptHash::Id, minimum: 0, steps: steps! {
         Upsert(1, 2, None), Remove(1, Some((1, 2))), Remove(1, None) } },
     // test_iterate
-    Story { name: "each of 32 pairs is met once", hasher: ScriptHash::Id, minimum: 4,
+    Story { name: "each of 32 pairs is visited once", hasher: ScriptHash::Id, minimum: 4,
         steps: steps! { InsertMultiples(0..32, 2), Expect(Len(32)), Expect(Value(31, Some(62))) } },
     // test_keys, test_values
-    Story { name: "each of three pairs is met once", hasher: ScriptHash::Id, minimum: 0,
+    Story { name: "each of three pairs is visited once", hasher: ScriptHash::Id, minimum: 0,
         steps: steps! { Insert(1, 97), Insert(2, 98), Insert(3, 99), Expect(Len(3)) } },
     // test_find
-    Story { name: "a key is found once it is there", hasher: ScriptHash::Id, minimum: 0,
+    Story { name: "a key is found once it is inserted", hasher: ScriptHash::Id, minimum: 0,
         steps: steps! { Expect(Value(1, None)), Upsert(1, 2, None), Expect(Value(1, Some(2))) } },
     // test_retain
     Story { name: "even keys are retained with their values", hasher: ScriptHash::Id, minimum: 0,

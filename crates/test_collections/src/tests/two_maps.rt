@@ -49,7 +49,7 @@ const MOST: usize = 1 << 63;
 // Of two buckets the first has the keys below 128, under the hash that spreads low bytes, and is
 // full when the last one is inserted.
 const STORIES: &[Story] = steps! {
-    Story { name: "a change of a map leaves its copy",
+    Story { name: "a change of a map doesn't change its copy",
         starts: ((ScriptHash::Spread, 0), (ScriptHash::Id, 0)), turns: steps! {
             One(InsertRange(128..159)), One(InsertRange(0..32)), CloneOne, ExpectEqual(true),
             Other(Expect(Len(63))), Other(Expect(Slots(128))), One(Expect(Slots(128))),
@@ -73,7 +73,7 @@ const STORIES: &[Story] = steps! {
             Other(Expect(Value(7, Some(7)))), Other(Expect(Len(100))) } },
     // The first map grows when its last key is inserted. All keys of the other share its first
     // bucket, so its 128 slots are doubled twice.
-    Story { name: "a map amid a growth is equal to its like",
+    Story { name: "a map during a growth equals one with the same pairs",
         starts: ((ScriptHash::Spread, 0), (ScriptHash::Id, 128)), turns: steps! {
             One(InsertRange(128..159)), Other(InsertRange(128..159)), InsertInTurn(0..32),
             One(Expect(Slots(128))), Other(Expect(Slots(512))), ExpectEqual(true),

@@ -72,7 +72,7 @@ fn slots_once_taken(cache: &mut HashCache<u64, u64>) -> Result<usize, AllocError
 fn a_map_is_the_default_of_its_place(rt: HostRuntime) -> Result<(), Fail> {
     let mut towns = HashMap::new(rt.alloc());
     check_same(&rt, give(&mut towns, 1, 2, 5), Ok(5), "new");
-    check_same(&rt, give(&mut towns, 1, 2, 6), Ok(11), "there");
+    check_same(&rt, give(&mut towns, 1, 2, 6), Ok(11), "present");
     check_same(&rt, towns.len(), 1, "len");
     Ok(())
 }
@@ -93,7 +93,7 @@ fn give(
 fn a_set_is_the_default_of_its_place(rt: HostRuntime) -> Result<(), Fail> {
     let mut sets = HashMap::new(rt.alloc());
     check_same(&rt, join(&mut sets, 3), Ok(true), "new");
-    check_same(&rt, join(&mut sets, 3), Ok(false), "there");
+    check_same(&rt, join(&mut sets, 3), Ok(false), "present");
     Ok(())
 }
 
@@ -107,7 +107,7 @@ fn join(sets: &mut HashMap<u64, HashSet<u64>>, number: u64) -> Result<bool, Allo
 fn an_index_is_the_default_of_its_place(rt: HostRuntime) -> Result<(), Fail> {
     let mut indexes = HashMap::new(rt.alloc());
     check_same(&rt, index(&mut indexes, 3), Ok(1), "new");
-    check_same(&rt, index(&mut indexes, 4), Ok(2), "there");
+    check_same(&rt, index(&mut indexes, 4), Ok(2), "present");
     Ok(())
 }
 
@@ -127,7 +127,7 @@ fn index(
 fn a_cache_is_the_default_of_its_place(rt: HostRuntime) -> Result<(), Fail> {
     let mut caches = HashMap::new(rt.alloc());
     check_same(&rt, keep(&mut caches, 3), Ok(1), "new");
-    check_same(&rt, keep(&mut caches, 4), Ok(2), "there");
+    check_same(&rt, keep(&mut caches, 4), Ok(2), "present");
     Ok(())
 }
 

@@ -51,44 +51,44 @@ const STORIES: &[Story] = steps! {
         Remove(5, true), ExpectCounts(30, 32), Insert(32), ExpectCounts(31, 31), Insert(33),
         ExpectCounts(32, 32) }),
     // Key 34 takes the slot of key 5.
-    ("tombstones wait while an own slot is free", ScriptHash::Zero, steps! {
+    ("tombstones stay while an own slot is free", ScriptHash::Zero, steps! {
         InsertRange(0..32), Remove(0, true), Remove(5, true), Insert(33), ExpectCounts(31, 31),
         Remove(7, true), ExpectCounts(30, 31), Insert(34), ExpectCounts(31, 32), Insert(35),
         ExpectCounts(32, 32) }),
     // Keys 32 and 33 are in a block of the chain, where there is room for key 34.
-    ("tombstones of a chain wait while all own slots have pairs", ScriptHash::Zero, steps! {
+    ("tombstones of a chain stay while all own slots have pairs", ScriptHash::Zero, steps! {
         InsertRange(0..34), Remove(32, true), Remove(33, true), Insert(34), ExpectCounts(33, 35),
         Remove(0, true), Insert(35), ExpectCounts(33, 33) }),
-    ("a removed key is inserted while its tombstone waits", ScriptHash::Zero, steps! {
+    ("a removed key is inserted beside its tombstone", ScriptHash::Zero, steps! {
         InsertRange(0..31), Remove(3, true), ExpectCounts(30, 31), Insert(3), ExpectCounts(31, 32),
         Remove(3, true), ExpectCounts(30, 32), Insert(3), ExpectCounts(31, 31), InsertPresent(3),
         ExpectCounts(31, 31) }),
-    ("a value that is handed over waits as others do", ScriptHash::Zero, steps! {
+    ("a value passed by remove_with stays in its tombstone", ScriptHash::Zero, steps! {
         InsertRange(0..32), RemoveWith(4, true), RemoveWith(4, false), ExpectCounts(31, 32),
         Remove(4, false), Insert(4), ExpectCounts(32, 32) }),
-    ("values of pairs that aren't kept wait as others do", ScriptHash::Zero, steps! {
+    ("values removed by retain stay in their tombstones", ScriptHash::Zero, steps! {
         InsertRange(0..32), RetainEven, ExpectCounts(16, 32), RetainEven, ExpectCounts(16, 32),
         Remove(1, false), Insert(32), ExpectCounts(17, 17), Insert(33), ExpectCounts(18, 18),
         RetainEven, ExpectCounts(17, 18) }),
-    ("a pair that stays leaves no tombstone", ScriptHash::Zero, steps! {
+    ("a pair that remove_if keeps leaves no tombstone", ScriptHash::Zero, steps! {
         InsertRange(0..32), RemoveIf(4, false), ExpectCounts(32, 32), RemoveIf(4, true),
         ExpectCounts(31, 32), Insert(32), ExpectCounts(32, 32) }),
-    ("a copy has no removed value", ScriptHash::Zero, steps! {
+    ("a clone has no removed value", ScriptHash::Zero, steps! {
         ExpectClone(0, 0), InsertRange(0..40), Remove(0, true), Remove(39, true),
         ExpectCounts(38, 40), ExpectClone(38, 78), ExpectCounts(38, 40), RetainEven,
         ExpectClone(19, 59), Remove(2, true), ExpectCounts(18, 40) }),
-    ("a clearing drops removed values too", ScriptHash::Zero, steps! {
+    ("clear drops removed values too", ScriptHash::Zero, steps! {
         InsertRange(0..40), Remove(1, true), Remove(39, true), Insert(1), ExpectCounts(39, 39),
         Remove(1, true), Remove(38, true), ExpectCounts(37, 39), Clear, ExpectCounts(0, 0),
         Insert(1), ExpectCounts(1, 1), Clear, Clear, ExpectCounts(0, 0) }),
-    ("an index drops removed values as it goes", ScriptHash::Zero, steps! {
+    ("dropping an index drops removed values", ScriptHash::Zero, steps! {
         InsertRange(0..40), Remove(1, true), Remove(39, true), Remove(0, true),
         ExpectCounts(37, 40) }),
     // Keys 0 to 30 are in the first bucket of two.
-    ("tombstones go with their array as the index has more slots", ScriptHash::Spread, steps! {
+    ("tombstones are dropped with their array in a growth", ScriptHash::Spread, steps! {
         InsertRange(0..31), Remove(2, true), Remove(3, true), ExpectCounts(29, 31),
         RaiseMinimum(128), Insert(255), ExpectCounts(30, 30) }),
-    ("tombstones go with the array of the last pair", ScriptHash::Zero, steps! {
+    ("tombstones are dropped with the array of the last pair", ScriptHash::Zero, steps! {
         InsertRange(0..3), Remove(1, true), Remove(0, true), ExpectCounts(1, 3), Remove(2, true),
         ExpectCounts(0, 0), Insert(2), ExpectCounts(1, 1) })
 };
@@ -183,7 +183,7 @@ fn copy(rt: &impl Abort, index: &Index, counted: &Rc<u64>, wanted: (usize, usize
 const WINDOW: u64 = 100;
 
 // How many values are in chains: those of 101 pairs at most, and those that were removed while all
-// own slots of their bucket had pairs, of which each is gone in 100 rounds.
+// own slots of their bucket had pairs, each of which is dropped within 100 rounds.
 const CHAINED: usize = 201;
 
 #[test]

@@ -99,7 +99,7 @@ fn raise(map: &mut HashMap<u64, u64>, key: u64) -> Option<(u64, u64)> {
 fn an_entry_lends_its_value(rt: HostRuntime) -> Result<(), Fail> {
     let mut map: HashMap<u64, u64> = HashMap::new(rt.alloc());
     check_same(&rt, map.upsert(1, 10).ok(), Some(None), "new");
-    check_same(&rt, raise(&mut map, 1), Some((10, 11)), "there");
+    check_same(&rt, raise(&mut map, 1), Some((10, 11)), "present");
     check_same(&rt, raise(&mut map, 2), None, "absent");
     check_same(&rt, map.get(&1).copied(), Some(12), "after");
     Ok(())

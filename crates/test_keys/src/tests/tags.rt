@@ -96,14 +96,14 @@ enum OnSet {
 type Story = (&'static str, &'static [Step]);
 
 const STORIES: &[Story] = steps! {
-    ("the key that came first stays in a map", steps! {
+    ("a map keeps the first of equal keys", steps! {
         OnMap(InsertPair(FIRST, 10, None)), OnMap(InsertPair(SECOND, 11, Some(2))),
         OnMap(Upsert(SECOND, 12, Some(10))), OnMap(Update(SECOND, Some(1))),
         OnMap(RemovePair(SECOND, Some((1, 12)))) }),
-    ("the key that came first stays in a set", steps! {
+    ("a set keeps the first of equal keys", steps! {
         OnSet(InsertNew(FIRST, None)), OnSet(InsertNew(SECOND, Some(2))),
         OnSet(Take(SECOND, Some(1))) }),
-    ("a key replaces its equal", steps! {
+    ("replace stores the last of equal keys", steps! {
         OnSet(Get(FIRST, None)), OnSet(Insert(FIRST, true)), OnSet(Get(FIRST, Some(1))),
         OnSet(Replace(FIRST, Some(1))), OnSet(Get(FIRST, Some(1))), OnSet(Get(SECOND, Some(1))),
         OnSet(Insert(SECOND, false)), OnSet(Get(SECOND, Some(1))), OnSet(Replace(SECOND, Some(1))),

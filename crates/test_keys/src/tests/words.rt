@@ -154,13 +154,13 @@ fn check_insertions(rt: &impl Abort, alloc: Global) {
     let mut words = HashMap::new(alloc);
     check_same(rt, kind(words.insert("Ann", 1)), None, "inserted");
     let there = Some(ErrorKind::AlreadyExists);
-    check_same(rt, kind(words.insert("Ann", 1)), there, "there");
+    check_same(rt, kind(words.insert("Ann", 1)), there, "present");
     let refused = Some(ErrorKind::OutOfMemory);
     check_same(
         rt,
         kind(Err(NotInserted::Memory("Ann", 1))),
         refused,
-        "refused",
+        "no memory",
     );
 }
 

@@ -1,5 +1,5 @@
 use Rattle.std.proofs.Common.{ℕ, Ok, Err, ap, arith, refl, sym}
-use Rattle.bucket_table.specs.declared.hash_table.NotInserted.{NotInserted}
+use Rattle.bucket_slots.specs.declared.not_inserted.NotInserted.{NotInserted}
 use Rattle.bucket_calls.specs.Codes.{insert_code}
 use Rattle.bucket_calls.proofs.Refused.{handed_back}
 use Rattle.bucket_calls.proofs.maps.insert_key.Goals as goal

@@ -54,7 +54,7 @@ impl<K: Drop, V: Drop> Chain<K, V> {
         let mut more = Chain::free_blocks(self.alloc, count.min(MAX_BLOCKS - len));
         let made = more.len.get();
         if made > 0 {
-            more.room();
+            more.fact_room();
             self.blocks
                 .append(len, replace(&mut more.blocks, Blocks::new()));
             self.len.set(len + made);
@@ -103,7 +103,7 @@ impl<K: Drop, V: Drop> Chain<K, V> {
         ensures rows { self.new ≡ rows_unlinked (rows_with self.old block pos free) block }
         ensures place { result.1 ≡ place_unlinked (rows_with self.old block pos free) block pos }
     {
-        self.room();
+        self.fact_room();
         let link = Far::walk(&mut self.blocks, block);
         let (pair, gone) = take_first(link, pos);
         if !gone {
@@ -124,7 +124,7 @@ impl<K: Drop, V: Drop> Chain<K, V> {
         if self.len.get() == 0 {
             return;
         }
-        self.room();
+        self.fact_room();
         let mut left = replace(&mut self.blocks, Blocks::new());
         let mut done = Blocks::new();
         while let Some(mut block) = left.pop() {
@@ -140,7 +140,7 @@ impl<K: Drop, V: Drop> Chain<K, V> {
     {
         let kept = self.kept_len();
         if kept < self.len.get() {
-            self.room();
+            self.fact_room();
             self.blocks.truncate(kept);
             self.len.set(kept);
         }
@@ -156,7 +156,7 @@ impl<K, V> Chain<K, V> {
         let mut passed = 0;
         let mut kept = 0;
         while let Some(block) = &at.first {
-            self.room();
+            self.fact_room();
             passed += 1;
             if !block.row.is_empty() {
                 kept = passed;

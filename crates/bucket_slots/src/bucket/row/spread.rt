@@ -45,7 +45,7 @@ impl<K: Drop, V: Drop, const LEN: usize> Row<K, V, LEN> {
                 break;
             }
             let target = target_at(targets, index);
-            target.sound();
+            target.fact_sound();
             let Some(free) = target.free_own() else {
                 break;
             };

@@ -6,7 +6,7 @@ ghost use Rattle.std.specs.Result.{result_map_both};
 ghost use Rattle.bucket_slots.specs.BucketView.{null_place, pairs_in};
 ghost use Rattle.bucket_slots.specs.Marking.{HasNoNewMark, MarksBy};
 ghost use Rattle.bucket_slots.specs.Walking.{pairs_ahead};
-ghost use Rattle.bucket_table.specs.Views.ArraysView.{marks_of, pairs_of};
+ghost use Rattle.bucket_table.specs.Views.ArraysView.{tombstones_of, pairs_of};
 ghost use Rattle.bucket_table.specs.Resize.Asking.{AsksShrinking};
 ghost use Rattle.bucket_table.specs.Walking.Cursors.{Advances, ShrinksThenPasses, HasNoneFrom};
 ghost use Rattle.bucket_table.specs.Walking.Cursors.{Leaves, SetsOut, bound_of};
@@ -58,8 +58,8 @@ impl<K: Eq + Drop, V: Drop, H: KeyHash<K>, L: LruList + Drop, const TYPE: u8> Ha
               place = Err (if is_ok result then Missing.Nothing else Missing.Memory);
               arrays = self.new.arrays;
             }) }
-        ensures marks { MarksBy (G.epoch_of generation.now) (marks_of self.old.arrays)
-            (marks_of self.new.arrays) }
+        ensures marks { MarksBy (G.epoch_of generation.now) (tombstones_of self.old.arrays)
+            (tombstones_of self.new.arrays) }
         ensures unchanged { length self.old.arrays.linked ≡ 0 → result ≡ Ok 0
             → self.new ≡ self.old }
         ensures refused { OnErr result ((bound : ℕ) × ((test : K × V → Bool)
@@ -71,7 +71,7 @@ impl<K: Eq + Drop, V: Drop, H: KeyHash<K>, L: LruList + Drop, const TYPE: u8> Ha
         let mut at = EntryPtr::null();
         let mut place = self.first(&mut at);
         while let Ok(index) = place {
-            self.sound();
+            self.fact_sound();
             let taken = self.retain_bucket(index, keep, generation);
             count = count.saturating_add(taken);
             place = self.first_past_bucket(index, &mut at);
@@ -104,7 +104,8 @@ impl<K: Eq + Drop, V: Drop, H: KeyHash<K>, L: LruList + Drop, const TYPE: u8> Ha
             self.new.arrays at.new }
         ensures departs { ShrinksThenPasses (λ to. to) Current index self.old.arrays result
             self.new.arrays }
-        ensures marks { HasNoNewMark (marks_of self.old.arrays) (marks_of self.new.arrays) }
+        ensures marks { HasNoNewMark (tombstones_of self.old.arrays)
+            (tombstones_of self.new.arrays) }
     {
         self.arrays
             .first_past_bucket(&self.hasher, Side::Current, index, at)

@@ -11,7 +11,7 @@ ghost use Rattle.bucket_table.specs.Views.Locking.{IsLocked};
 ghost use Rattle.bucket_table.specs.Map.MapState.{KeepsPairs, state_of};
 ghost use Rattle.bucket_table.specs.Views.Settings.{KeepsSettings};
 ghost use Rattle.bucket_table.specs.Views.Sides.{arrays_with, bucket_on};
-ghost use Rattle.bucket_table.specs.Rehash.Units.{WantsMemory, WorksUnits};
+ghost use Rattle.bucket_table.specs.Rehash.Units.{NeedsMemory, WorksUnits};
 ghost use Rattle.bucket_table.specs.Walking.Visits.{reading};
 ghost use Rattle.bucket_table.specs.Walking.Walks.{BeginsAt, KeepsBuckets, WalksBy};
 ghost use Rattle.bucket_table.specs.declared.arrays.side.Side.TheVariants.{Current};
@@ -71,7 +71,7 @@ impl<K: Eq + Drop, V: Drop, H: KeyHash<K>, L: LruList + Drop, const TYPE: u8> Ha
             let Ok(()) = self.prepare_at(index) else {
                 return Err(AllocError);
             };
-            self.sound();
+            self.fact_sound();
             more = self.visit_at(index, visitor, &mut flag);
             index += 1;
         }
@@ -113,8 +113,8 @@ impl<K: Eq + Drop, V: Drop, H: KeyHash<K>, L: LruList + Drop, const TYPE: u8> Ha
             let Ok(()) = self.prepare_at(index) else {
                 return Err(AllocError);
             };
-            self.sound();
-            self.arrays.room_of(Side::Current);
+            self.fact_sound();
+            self.arrays.fact_room_of(Side::Current);
             more = reader.read(self.arrays.bucket_of(Side::Current, index));
             index += 1;
         }
@@ -125,12 +125,12 @@ impl<K: Eq + Drop, V: Drop, H: KeyHash<K>, L: LruList + Drop, const TYPE: u8> Ha
     /// a walk.
     ///
     /// O(1).
-    pub fn room(&self)
+    pub fn fact_room(&self)
         requires array_stands { 0 < length self.now.arrays.current }
         ensures { BucketFits K.row V.row L.row TYPE.row
             (record { KEEPS = L.KEEPS; listed = L.listed; IsTail = L.IsTail }) L.Default }
     {
-        self.arrays.room_of(Side::Current);
+        self.arrays.fact_room_of(Side::Current);
     }
 
     /// Works a unit, and moves the sources of a current bucket.
@@ -145,7 +145,7 @@ impl<K: Eq + Drop, V: Drop, H: KeyHash<K>, L: LruList + Drop, const TYPE: u8> Ha
         ensures kept { KeepsArrays self.old.arrays self.new.arrays }
         ensures ready { OnOk result (AreSourcesKilled self.new.arrays index) }
         ensures wanted { OnErr result
-            (WantsMemory (IsSource self.new.arrays index) self.old.arrays self.new.arrays) }
+            (NeedsMemory (IsSource self.new.arrays index) self.old.arrays self.new.arrays) }
         ensures units { WorksUnits 1 (λ home. home ≡ index) self.old.arrays self.new.arrays }
         ensures alone { length self.old.arrays.linked ≡ 0 → self.new.arrays ≡ self.old.arrays }
         ensures succeeds { length self.old.arrays.linked ≡ 0 → IsOk result }

@@ -16,7 +16,7 @@ ghost use Rattle.bucket_table.specs.Map.Free.{MayLockAtOnce};
 ghost use Rattle.bucket_table.specs.Map.Refusing.{IsRefused};
 ghost use Rattle.bucket_table.specs.Views.TableRow.{table_row};
 ghost use Rattle.bucket_table.specs.Views.Locking.{IsLocked};
-ghost use Rattle.bucket_table.specs.Map.Preparing.{HomeWantsMemory, IsMissing, IsPrepared, IsReady};
+ghost use Rattle.bucket_table.specs.Map.Preparing.{HomeNeedsMemory, IsMissing, IsPrepared, IsReady};
 ghost use Rattle.bucket_table.specs.Views.Sides.{buckets_on};
 ghost use Rattle.bucket_table.specs.declared.arrays.side.Side.TheVariants.{Current};
 ghost use Rattle.bucket_table.specs.declared.hash_table.ResizeRule.{ResizeRule};
@@ -49,11 +49,11 @@ impl<K: Eq + Drop, V: Drop, H: KeyHash<K>, L: LruList + Drop, const TYPE: u8> Ha
         ensures ready { OnOk result (IsReady self.new.arrays hash) }
         ensures missing { IfErr result (λ missing. IsMissing missing self.old.arrays) }
         ensures wanted { result ≡ Err Missing.Memory
-            → HomeWantsMemory hash self.old.arrays self.new.arrays }
+            → HomeNeedsMemory hash self.old.arrays self.new.arrays }
         ensures empty { result ≡ Err Missing.Nothing → pairs_of self.new.arrays ≡ [] }
     {
         let is_ready = self.arrays.fetch_home(&self.hasher, hash);
-        self.arrays.sound();
+        self.arrays.fact_sound();
         is_ready
     }
 
@@ -75,7 +75,7 @@ impl<K: Eq + Drop, V: Drop, H: KeyHash<K>, L: LruList + Drop, const TYPE: u8> Ha
     pub fn find(&mut self, hash: u64, rule: ResizeRule) -> Result<(Side, usize), AllocError>
         ensures { Finds rule TYPE hash self.old result self.new }
     {
-        self.sound();
+        self.fact_sound();
         match rule {
             ResizeRule::Sampled => self.find_by_plan(hash),
             ResizeRule::Counted => match self.grow_if_overfull(hash) {
@@ -207,7 +207,7 @@ impl<K: Eq + Drop, V: Drop, H: KeyHash<K>, L: LruList + Drop, const TYPE: u8> Ha
             (record { KEEPS = L.KEEPS; listed = L.listed; IsTail = L.IsTail }) L.Default)
             self.entry (λ locked. locked.table.ghost_name) result
             (λ after. IsPrepared TYPE hash self.old after
-            × (result ≡ Err Missing.Memory → HomeWantsMemory hash self.old.arrays after.arrays))) }
+            × (result ≡ Err Missing.Memory → HomeNeedsMemory hash self.old.arrays after.arrays))) }
         ensures same_table { IfOk result (λ locked. locked.table.ghost_name
             ≡ self.entry.ghost_name) }
         ensures prepared { IfOk result (λ locked. IsPrepared TYPE hash self.old locked.table.now) }

@@ -13,4 +13,4 @@ returns g c = all_from_yields_List
     (YieldsList-from_first (λ pair. (pair.0.now, pair.1.now)) (λ left. left) (pairs_of c.args.own.now.arrays) c.pairs.ensures)
     (λ x b q k. search (rules, k.met))
     ∙ asked_of_pairs g.K.PartialEq.eq g.met.K.Eq.laws g.V.PartialEq.eq (map_of c.args.own.now) (map_of c.args.other.now)
-    c.sound.ensures.one_map.distinct
+    c.fact_sound.ensures.one_map.distinct

@@ -10,7 +10,7 @@ returns-in-Some g c =
     let alike = g.met.Q.KeyForm.alike c.args.form in
     let ps = pairs_of c.args.table.now.arrays in
     let there = rw c.new.ensures.form at c.in-Some.ensures.found in
-    let distinct = c.sound.ensures.one_map.distinct in
+    let distinct = c.fact_sound.ensures.one_map.distinct in
     let pair : g.row.K.Denot × g.row.V.Denot = (c.in-Some.own.now, c.in-Some.value.now) in
     record {
       key = sym (key_there g.K.PartialEq.eq g.met.K.Eq.laws test alike ps pair distinct there.0 there.1);

@@ -114,7 +114,7 @@ impl<'a, K: Eq + Drop, V: Drop, H: KeyHash<K>> VacantEntry<'a, K, V, H> {
                 Err(back) => Err(E::from(back)),
             },
             Err(why) => {
-                map.sound();
+                map.fact_sound();
                 Err(why)
             }
         }

@@ -11,7 +11,7 @@ ghost use Rattle.collections.specs.Room.{MapFits};
 
 use crate::hash_map::HashMap;
 use crate::hash_map::entry::VacantEntry;
-use crate::homes::learn_homes;
+use crate::homes::fact_homes;
 use bucket_slots::bucket::MAP;
 use bucket_table::hash_table::{HashTable, ResizeRule, Side};
 use bucket_table::key_hash::KeyHash;
@@ -79,11 +79,11 @@ impl<K: Eq + Drop, V: Drop, H: KeyHash<K>> HashMap<K, V, H> {
         ensures value { IfOk result (λ lent. lent.now ≡ value) }
         ensures pair_returned { IfErr result (λ back. back.value ≡ (key, value)) }
     {
-        self.room.learn();
-        self.table.sound();
+        self.room.fact_fits();
+        self.table.fact_sound();
         let Ok((side, index)) = find_absent(&mut self.table, hash, &key) else {
-            learn_homes(&self.table, hash);
-            self.table.sound();
+            fact_homes(&self.table, hash);
+            self.table.fact_sound();
             return Err(AllocFailed {
                 value: (key, value),
             });
@@ -91,12 +91,12 @@ impl<K: Eq + Drop, V: Drop, H: KeyHash<K>> HashMap<K, V, H> {
         let at = match self.table.lock(side, index).insert(hash, (key, value), &()) {
             Ok(at) => at,
             Err(value) => {
-                learn_homes(&self.table, hash);
-                self.table.sound();
+                fact_homes(&self.table, hash);
+                self.table.fact_sound();
                 return Err(AllocFailed { value });
             }
         };
-        self.table.sound();
+        self.table.fact_sound();
         Ok(self.table.entry_mut_at(side, index, &at).1)
     }
 }

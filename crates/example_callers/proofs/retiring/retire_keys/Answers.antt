@@ -1,4 +1,4 @@
-use Rattle.bucket_table.specs.Views.ArraysView.{marks_of}
+use Rattle.bucket_table.specs.Views.ArraysView.{tombstones_of}
 use Rattle.collections.specs.Maps.{map_of}
 use Rattle.example_callers.proofs.WithoutKeys.{marks_joined, updates_out, without_more}
 use Rattle.example_callers.proofs.retiring.retire_keys.Goals as goal
@@ -13,6 +13,6 @@ loop-key-preserved g c =
       without_more eq laws c.args.retired.now at.key-index key (map_of c.args.index.now) (map_of at.index) (map_of new)
           c.loop-key-test.true c.key-item.is at.invariant.0 (updates_out eq laws key (map_of at.index) c.remove.result (map_of new)
           c.remove.ensures.map),
-      marks_joined 0 (marks_of c.args.index.now.arrays) (marks_of at.index.arrays) (marks_of new.arrays) at.invariant.1
+      marks_joined 0 (tombstones_of c.args.index.now.arrays) (tombstones_of at.index.arrays) (tombstones_of new.arrays) at.invariant.1
           c.remove.ensures.marks,
     )

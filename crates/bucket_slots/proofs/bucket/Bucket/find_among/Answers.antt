@@ -1,4 +1,4 @@
-use Rattle.bucket_slots.proofs.Words.{ap, arith, first_from, flattened, has_byte, is_wanted, refl, sum_by-append, sym, ◌∙◌}
+use Rattle.bucket_slots.proofs.Words.{ap, arith, first_from, flattened, has_byte, is_match, refl, sum_by-append, sym, ◌∙◌}
 use Rattle.bucket_slots.proofs.Counting.{tally}
 use Rattle.bucket_slots.proofs.FirstPlaces.{first_chain}
 use Rattle.bucket_slots.proofs.PairsAfter.{live_from_pair}
@@ -17,7 +17,7 @@ returns-in-Some-clause-few g c =
 
 pub returns-in-None-clause-place : goal.returns-in-None-clause-place
 returns-in-None-clause-place g c =
-    let test = is_wanted (g.P.KeyProbe.wants c.args.probe.now) c.args.byte in
+    let test = is_match (g.P.KeyProbe.matches c.args.probe.now) c.args.byte in
     let none = rw (← c.self.view_is) at c.requires.chainless in
     rw (← c.self.view_is)
     (ap (first_from test 1) (sym none) ∙ first_chain test c.self.inside.own c.self.inside.chain c.in-None.ensures.place)

@@ -1,4 +1,4 @@
-use Rattle.bucket_slots.proofs.Words.{arith, flattened, has_byte, is_wanted, length, live_pairs, refl, sum_by-append, sym, ◌%◌, ◌∙◌, ◌≡◌}
+use Rattle.bucket_slots.proofs.Words.{arith, flattened, has_byte, is_match, length, live_pairs, refl, sum_by-append, sym, ◌%◌, ◌∙◌, ◌≡◌}
 use Rattle.bucket_slots.proofs.Counting.{tally}
 use Rattle.bucket_slots.proofs.FilledPlaces.{low_byte_fits}
 use Rattle.bucket_slots.proofs.FirstPlaces.{first_chain, found_in_chain, none_live}
@@ -6,17 +6,17 @@ use Rattle.bucket_slots.proofs.bucket.Bucket.find_by.Goals as goal
 
 pub returns-clause-place : goal.returns-clause-place
 returns-clause-place g c =
-    let test = is_wanted (g.P.KeyProbe.wants c.args.probe.now) (c.args.hash % 256) in
+    let test = is_match (g.P.KeyProbe.matches c.args.probe.now) (c.args.hash % 256) in
     rw (c.find_by-2.ensures.place, c.find_by.ensures.fixed, ← c.self.view_is)
     (first_chain test c.self.inside.own c.self.inside.chain c.in_default.ensures.place)
 
 pub returns-then-self-eq0-clause-place : goal.returns-then-self-eq0-clause-place
 returns-then-self-eq0-clause-place g c =
-    let wants = g.P.KeyProbe.wants c.args.probe.now in
+    let matches = g.P.KeyProbe.matches c.args.probe.now in
     let byte = c.args.hash % 256 in
     let empty : length (live_pairs (flattened c.self.inside.chain)) ≡ 0 = omega (arith, c.self.invariant.1.counted, c.if-self-eq0.true) in
-    rw (← c.self.view_is) (sym (none_live wants byte 1 c.self.inside.chain empty)
-    ∙ first_chain (is_wanted wants byte) c.self.inside.own c.self.inside.chain c.in_default.ensures.place)
+    rw (← c.self.view_is) (sym (none_live matches byte 1 c.self.inside.chain empty)
+    ∙ first_chain (is_match matches byte) c.self.inside.own c.self.inside.chain c.in_default.ensures.place)
 
 pub returns-clause-pair : goal.returns-clause-pair
 returns-clause-pair g c =

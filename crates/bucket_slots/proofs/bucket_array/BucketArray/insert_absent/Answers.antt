@@ -1,4 +1,4 @@
-use Rattle.bucket_slots.proofs.Words.{ap, place_wanted, refl, set, slots_with, sym, ◌%◌, ◌∙◌}
+use Rattle.bucket_slots.proofs.Words.{ap, place_matched, refl, set, slots_with, sym, ◌%◌, ◌∙◌}
 use Rattle.bucket_slots.specs.ArrayView.{bucket_at}
 use Rattle.bucket_slots.proofs.Digests.{IsDigest-put, after_put, set_at}
 use Rattle.bucket_slots.proofs.bucket_array.BucketArray.insert_absent.Goals as goal
@@ -25,11 +25,11 @@ returns-clause-put g c =
 pub returns-in-Some-find_among-clause-answer : goal.returns-in-Some-find_among-clause-answer
 returns-in-Some-find_among-clause-answer g c =
     let b = bucket_at c.self.inside.buckets c.args.index in
-    let key = ap (λ key. place_wanted (λ own. g.K.PartialEq.eq own key) (c.args.hash % 256) b) c.new.ensures.key in
+    let key = ap (λ key. place_matched (λ own. g.K.PartialEq.eq own key) (c.args.hash % 256) b) c.new.ensures.key in
     rw (← c.self.view_is) (refl, refl, (c.in-Some-find_among._found.0, sym key ∙ sym c.in-Some-find_among.ensures.place))
 
 pub returns-clause-answer : goal.returns-clause-answer
 returns-clause-answer g c =
     let b = bucket_at c.self.inside.buckets c.args.index in
-    let key = ap (λ key. place_wanted (λ own. g.K.PartialEq.eq own key) (c.args.hash % 256) b) c.new.ensures.key in
+    let key = ap (λ key. place_matched (λ own. g.K.PartialEq.eq own key) (c.args.hash % 256) b) c.new.ensures.key in
     rw (← c.self.view_is) (sym key ∙ sym c.in_default-find_among.ensures.place)

@@ -13,7 +13,7 @@ returns-then-not-is_valid-clause-taken g c =
 pub remove-pair-requires : goal.remove-pair-requires
 remove-pair-requires g c =
     let found = c.get_entry_ptr_by-at.ensures.found (c.is_valid.ensures.0 c.if-not-is_valid.false) in
-    let (pair, is) = found_pair (g.P.KeyProbe.wants c.args.probe.now) (c.args.hash % 256) c.bucket_mut-bucket.result.now _ found in
+    let (pair, is) = found_pair (g.P.KeyProbe.matches c.args.probe.now) (c.args.hash % 256) c.bucket_mut-bucket.result.now _ found in
     let live = live_from_pair _ pair is.slot in
     search rules
 

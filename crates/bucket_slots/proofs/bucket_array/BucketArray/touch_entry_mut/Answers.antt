@@ -6,7 +6,7 @@ use Rattle.bucket_slots.proofs.bucket_array.BucketArray.touch_entry_mut.Goals as
 
 pub update_lru_tail-requires : goal.update_lru_tail-requires
 update_lru_tail-requires g c = (
-  c.room.ensures.fits,
+  c.fact_room.ensures.fits,
   (omega arith, (c.requires.cache, rw (c.get_mut-bucket.ensures.bucket, c.self.view_is) c.requires.live_slot)),
 )
 

@@ -12,7 +12,7 @@ loop-bucket-preserved g c =
     let row = row_of c.args.self.now in
     let more = entries_among_more row c.loop-bucket.index c.in-Some.ensures.bucket.0 in
     let here = c.len.ensures ∙ ap live_len c.in-Some.ensures.bucket.1 in
-    let own = rw c.in-Some.ensures.bucket.1 at c.sound.ensures.own_long in (
+    let own = rw c.in-Some.ensures.bucket.1 at c.fact_sound.ensures.own_long in (
       omega (arith, more, here, c.loop-bucket.invariant.0, c.saturating_add-live.ensures),
       λ i below. elim (cases_eq i c.loop-bucket.index) [
         | inl same ↦ ap (λ (j : ℕ). length (bucket_at row j).own) same ∙ own

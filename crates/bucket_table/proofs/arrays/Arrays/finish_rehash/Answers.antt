@@ -1,7 +1,7 @@
 use Rattle.bucket_table.proofs.Words.{ap, arith, length, refl, ◌+◌, ◌-◌, ◌≡◌}
 use Rattle.bucket_table.proofs.Views.Keeping.{kept_both, kept_none}
 use Rattle.bucket_table.proofs.Rehash.UnitRuns.{stands_still, units_both}
-use Rattle.bucket_table.proofs.Rehash.Wanting.{wanted_before}
+use Rattle.bucket_table.proofs.Rehash.NeedingMemory.{needed_before}
 use Rattle.bucket_table.proofs.arrays.Arrays.finish_rehash.Goals as goal
 
 pub loop-success-init : goal.loop-success-init
@@ -55,6 +55,6 @@ returns-then-not-success-clause-units g c =
 pub returns-then-not-success-clause-wanted : goal.returns-then-not-success-clause-wanted
 returns-then-not-success-clause-wanted g c =
     let done = c.in-Some.ensures.finishes c.loop-success.invariant.2 in
-    wanted_before _ c.loop-success.count c.args.self.now c.loop-success.self c.work_unit.new.self
+    needed_before _ c.loop-success.count c.args.self.now c.loop-success.self c.work_unit.new.self
     c.loop-success.invariant.1.current_len c.loop-success.invariant.5 (λ on. (c.work_unit.ensures.units.stands on).len)
     (done.one.2 c.if-not-success.true).1

@@ -1,7 +1,7 @@
 use Rattle.bucket_table.proofs.Views.Keeping.{kept_both}
 use Rattle.bucket_table.proofs.Map.Preparing.{sources_worked}
 use Rattle.bucket_table.proofs.Rehash.UnitRuns.{units_prepared}
-use Rattle.bucket_table.proofs.Rehash.Wanting.{sources_want, wanted_before}
+use Rattle.bucket_table.proofs.Rehash.NeedingMemory.{sources_need, needed_before}
 use Rattle.bucket_table.proofs.arrays.Arrays.prepare_beside.Goals as goal
 
 pub returns-then-relocate_range-clause-kept : goal.returns-then-relocate_range-clause-kept
@@ -32,8 +32,8 @@ returns-else-relocate_range-clause-units g c =
 
 pub returns-else-relocate_range-clause-wanted : goal.returns-else-relocate_range-clause-wanted
 returns-else-relocate_range-clause-wanted g c =
-    wanted_before _ 1 c.args.self.now c.work_unit.new.self _ c.work_unit.ensures.kept.current_len c.work_unit.ensures.units
+    needed_before _ 1 c.args.self.now c.work_unit.new.self _ c.work_unit.ensures.kept.current_len c.work_unit.ensures.units
     (λ on. c.relocate_range.ensures.worked.0.killed.len)
-    (sources_want _ _ c.len-to.result c.old_len-from.result c.args.index c.work_unit.new.self _ c.relocate_range.ensures.worked.0
+    (sources_need _ _ c.len-to.result c.old_len-from.result c.args.index c.work_unit.new.self _ c.relocate_range.ensures.worked.0
     c.len-to.ensures.value c.old_len-from.ensures.value c.from_index_to_range-start.ensures.range
     (c.relocate_range.ensures.wanted c.if-relocate_range.false))

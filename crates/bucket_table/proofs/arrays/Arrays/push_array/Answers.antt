@@ -19,7 +19,8 @@ pub returns-in-Ok-new-clause-pushed : goal.returns-in-Ok-new-clause-pushed
 returns-in-Ok-new-clause-pushed g c =
     rw (c.adopt_digests.ensures.own, c.adopt_digests.ensures.other, c.array_mut.ensures.array, c.in-Ok-new.ensures.made) (record {
       alone = c.requires.alone;
-      none_open = none_open c.args.self.now.tickets c.sound.ensures.tickets (c.sound.ensures.arrays.tickets_len ∙ c.requires.alone);
+      none_open = none_open c.args.self.now.tickets c.fact_sound.ensures.tickets (c.fact_sound.ensures.arrays.tickets_len ∙
+          c.requires.alone);
       fresh = c.in_ok-fresh.fresh;
       fresh_is = c.in_ok-fresh.ensures;
       new_is = pushed_seen _ _ _ c.self.inside.current _ c.args.self.now c.in_ok-fresh.fresh c.in-Some.array c.in-Ok.tickets c.len.result

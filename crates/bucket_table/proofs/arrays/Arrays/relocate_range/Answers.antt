@@ -2,7 +2,7 @@ use Rattle.bucket_table.proofs.Words.{IsInRange, arith, false≢true, inr}
 use Rattle.bucket_table.proofs.Rehash.Killing.{only_more, only_same}
 use Rattle.bucket_table.proofs.Rehash.Spending.{spends_both, spends_none, spends_one, spends_same}
 use Rattle.bucket_table.proofs.Rehash.UnitSteps.{range_more, range_none, some_refused, some_worked}
-use Rattle.bucket_table.proofs.Rehash.Wanting.{range_wants}
+use Rattle.bucket_table.proofs.Rehash.NeedingMemory.{range_wants}
 use Rattle.bucket_table.proofs.arrays.Arrays.relocate_range.Goals as goal
 
 pub buckets-init : goal.buckets-init

@@ -2,7 +2,7 @@ use Rattle.bucket_table.proofs.Words.{arith, ◌*◌}
 use Rattle.std.proofs.Common.{mul_comm}
 use Rattle.bucket_table.proofs.Rehash.Killing.{only_unit}
 use Rattle.bucket_table.proofs.Rehash.UnitSteps.{unit_worked}
-use Rattle.bucket_table.proofs.Rehash.Wanting.{range_longer}
+use Rattle.bucket_table.proofs.Rehash.NeedingMemory.{range_longer}
 use Rattle.bucket_table.proofs.arrays.Arrays.relocate_unit.Goals as goal
 
 pub returns-clause-worked : goal.returns-clause-worked

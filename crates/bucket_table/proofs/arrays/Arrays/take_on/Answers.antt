@@ -9,7 +9,8 @@ returns-in_default-clause-taken g c =
     let home = rw c.array_of.ensures at c.bucket_index-index.ensures in
     let none = c.in_default.ensures.taken in (
       none.0,
-      none_at_home (g.P.KeyProbe.wants c.args.probe.now) c.args.self.now c.args.side (buckets_on c.args.self.now c.args.side) _ c.args.hash
+      none_at_home (g.P.KeyProbe.matches c.args.probe.now) c.args.self.now c.args.side (buckets_on c.args.self.now c.args.side) _
+          c.args.hash
           c.bucket_index-index.result refl refl home none.1,
     )
 
@@ -32,7 +33,7 @@ returns-clause-taken g c =
     record {
       index = c.bucket_index-index.result;
       at = taken.at;
-      stands = stands_found (g.P.KeyProbe.wants c.args.probe.now) c.args.self.now c.args.side
+      stands = stands_found (g.P.KeyProbe.matches c.args.probe.now) c.args.self.now c.args.side
           (buckets_on c.args.self.now c.args.side) _ (c.args.hash % 256) c.bucket_index-index.result _ refl refl within taken.found;
       taken = taken.taken;
       asked = shrinks_after c.args.pairs c.args.self.now c.args.side c.bucket_index-index.result _ c.shrink_left.new.self within

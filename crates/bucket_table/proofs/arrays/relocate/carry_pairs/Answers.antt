@@ -54,10 +54,10 @@ append_arrivals-requires g c =
     let order = order_back source.listed c.take_lru-len.result.0 c.take_lru-len.result.1 taken.slots taken.number in (
       search rules,
       (
-        rw order c.sound.ensures.listed_once,
+        rw order c.fact_sound.ensures.listed_once,
         (
           c.move_pairs-2.ensures.landed.table,
-          (is_cache g.row.TYPE source _ c.sound.ensures order, is_kept g.L.LruList.KEEPS source.listed _ taken.not_kept order),
+          (is_cache g.row.TYPE source _ c.fact_sound.ensures order, is_kept g.L.LruList.KEEPS source.listed _ taken.not_kept order),
         ),
       ),
     )
@@ -68,7 +68,7 @@ returns g c =
     let taken = c.take_lru-len.ensures in
     let m = c.move_pairs-2 in
     let carried = carried_over g.row.TYPE hash c.args.source.now c.take_lru-len.new.self m.new.source c.args.current.now m.new.current
-    c.append_arrivals.new.current m.new.landings c.take_lru-len.result.0 c.take_lru-len.result.1 c.sound.ensures m.auto.landings
+    c.append_arrivals.new.current m.new.landings c.take_lru-len.result.0 c.take_lru-len.result.1 c.fact_sound.ensures m.auto.landings
     taken.bucket taken.slots taken.number m.ensures.landed (m.ensures.in_order c.take_lru-len.new.self
     (in_order_first c.take_lru-len.new.self c.args.current.now)) m.ensures.moved m.ensures.homes c.append_arrivals.ensures in
     record { moved = carried.moved; homes = carried.homes; emptied = m.ensures.emptied; recency = carried.recency }

@@ -83,7 +83,7 @@ returns g c =
           rw w.current-is (unreserved hash at same alive le (omega (arith, w.len.ensures, w.if-len-gt-BUCKET_LEN.false)))
     ] in
     let carried = c.carry_pairs.ensures in
-    let done = all_moved hash at same g.row.TYPE prepared carried.moved carried.homes carried.emptied c.sound.ensures alive
+    let done = all_moved hash at same g.row.TYPE prepared carried.moved carried.homes carried.emptied c.fact_sound.ensures alive
     c.kill.ensures in
     let recency = carries_since c.bucket_mut-source.result.now c.args.current.now c.if-to-from.current c.carry_pairs.new.current
     prepared.kept carried.recency in

@@ -4,5 +4,5 @@ use Rattle.bucket_table.proofs.hash_table.HashTable.fetch_spot.Goals as goal
 
 pub returns-in-Err-clause-absent : goal.returns-in-Err-clause-absent
 returns-in-Err-clause-absent g c =
-    absent_before (g.P.KeyProbe.wants c.args.probe.now) (state_of g.row.TYPE c.args.self.now)
+    absent_before (g.P.KeyProbe.matches c.args.probe.now) (state_of g.row.TYPE c.args.self.now)
     (state_of g.row.TYPE c.fetch_place.new.self) c.fetch_place.ensures.prepared.map c.in-Err.ensures.absent

@@ -36,7 +36,7 @@ pub loop-more-preserved : goal.loop-more-preserved
 loop-more-preserved g c =
     let same = c.prepare_at.ensures.hasher ∙ c.loop-more.invariant.1 in
     let one = subst (λ hasher. IsOneMap g.K.PartialEq.eq (g.H.KeyHash.hash_of hasher)
-    c.prepare_at.new.self.arrays) same c.sound.ensures.one_map in
+    c.prepare_at.new.self.arrays) same c.fact_sound.ensures.one_map in
     let stands = subst (λ more. WalkStands g.F.Visit.visits (g.H.KeyHash.hash_of c.args.self.now.hasher)
     c.args.visitor.now c.loop-more.visitor c.args.self.now.arrays c.first_index-index.result
     c.loop-more.index c.loop-more.flag more c.loop-more.self.arrays) c.loop-more-test.true

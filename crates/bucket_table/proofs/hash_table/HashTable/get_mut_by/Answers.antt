@@ -12,7 +12,8 @@ returns-in-Some g c =
     let stands = c.in-Some.ensures.found in (
       (
         refl,
-        λ value. lent_writes (g.P.KeyProbe.wants c.args.probe.now) g.row.TYPE _ c.args.self.now between prepared o.side o.index o.at stands
+        λ value. lent_writes (g.P.KeyProbe.matches c.args.probe.now) g.row.TYPE _ c.args.self.now between prepared o.side o.index o.at
+            stands
             own _ e.pair false value _ refl (e.map value),
         tt,
       ),
@@ -20,7 +21,7 @@ returns-in-Some g c =
         writes_back = tt;
         found = (
           own,
-          lent_there (g.P.KeyProbe.wants c.args.probe.now) g.row.TYPE _ c.args.self.now between prepared o.side o.index o.at stands own _
+          lent_there (g.P.KeyProbe.matches c.args.probe.now) g.row.TYPE _ c.args.self.now between prepared o.side o.index o.at stands own _
               e.pair,
         );
         absent = tt;

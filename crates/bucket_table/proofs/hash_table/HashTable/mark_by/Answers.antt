@@ -1,4 +1,4 @@
-use Rattle.bucket_table.proofs.Words.{bucket_on, by-no_new, by-trans, marks_in, marks_of, refl}
+use Rattle.bucket_table.proofs.Words.{bucket_on, by-no_new, by-trans, marks_in, tombstones_of, refl}
 use Rattle.bucket_slots.proofs.MarksAfter.{by-one, marks_in-slots_marked}
 use Rattle.bucket_table.proofs.Map.KeySteps.{marks_through}
 use Rattle.bucket_table.proofs.Map.SlotSteps.{marks}
@@ -28,7 +28,7 @@ returns-in-Some-clause-map g c =
       own,
       value,
       c.reader-answer.ensures,
-      same_taken (g.P.KeyProbe.wants c.args.probe.now) _ _ stands.pair (own.now, value.now) stands.slot stands.there there,
+      same_taken (g.P.KeyProbe.matches c.args.probe.now) _ _ stands.pair (own.now, value.now) stands.slot stands.there there,
       then_taken _ _ _ (own.now, value.now) keeps (marks g.met.K.Eq.laws g.H.KeyHash.hash_of g.row.TYPE o.side o.index
           c.self.invariant.one_map
           stands.within o.at (own.now, value.now) there _ _ e.kept e.placed).map,
@@ -53,7 +53,7 @@ returns-in-Some-clause-marks g c =
     let epoch = g.G.Generation.epoch_of c.args.generation.now in
     let stands = rw (← c.self.view_is) at c.in-Some.ensures.found in
     let none = rw (← c.self.view_is) at c.fetch_spot.ensures.prepared.kept.keeps.marks in
-    by-trans epoch (marks_of c.args.self.now.arrays) (marks_of c.self.inside.arrays) (marks_of c.mark_at.new.self)
+    by-trans epoch (tombstones_of c.args.self.now.arrays) (tombstones_of c.self.inside.arrays) (tombstones_of c.mark_at.new.self)
     (by-no_new epoch _ _ none)
     (marks_through epoch _ o.side o.index _ c.mark_at.new.self (by-one epoch stands.pair
     (marks_in (bucket_on c.self.inside.arrays o.side o.index)) _ (marks_in-slots_marked _ o.at epoch stands.pair stands.slot))
@@ -72,6 +72,6 @@ pub reader-answer-requires : goal.reader-answer-requires
 reader-answer-requires g c =
     let stands = rw (← c.self.view_is) at c.in-Some.ensures.found in
     let keeps = rw (← c.self.view_is) at c.fetch_spot.ensures.prepared.map in
-    c.requires.callable _ _ (shown_before (g.P.KeyProbe.wants c.args.probe.now) (state_of g.row.TYPE c.args.self.now) _ _
+    c.requires.callable _ _ (shown_before (g.P.KeyProbe.matches c.args.probe.now) (state_of g.row.TYPE c.args.self.now) _ _
     stands.pair _ keeps
     stands.slot stands.there c.entry_of.ensures)

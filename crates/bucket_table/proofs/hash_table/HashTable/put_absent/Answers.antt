@@ -7,7 +7,7 @@ use Rattle.bucket_table.proofs.Map.Counted.{counted_after, len_put_absent}
 use Rattle.bucket_table.proofs.hash_table.HashTable.put_absent.Goals as goal
 
 pub bucket_of_mut-bucket-requires : goal.bucket_of_mut-bucket-requires
-bucket_of_mut-bucket-requires g c = (omega arith, (c.room_of.ensures, rw (← c.self.view_is) at c.requires.locked.within))
+bucket_of_mut-bucket-requires g c = (omega arith, (c.fact_room_of.ensures, rw (← c.self.view_is) at c.requires.locked.within))
 
 pub invariant_of-self : goal.invariant_of-self
 invariant_of-self g c =

@@ -1,7 +1,7 @@
-use Rattle.bucket_table.proofs.Words.{ap, arith, bucket_at, length, pairs_in, refl, sym, ◌<◌, ◌∙◌}
+use Rattle.bucket_table.proofs.Words.{[], ap, arith, bucket_at, length, nil_from_length, pairs_in, pairs_of, refl, sym, ◌<◌, ◌∙◌, ◌≡◌}
 use Rattle.bucket_table.specs.Walking.Row.{row_of}
 use Rattle.bucket_table.proofs.Walking.Each.{nothing}
-use Rattle.bucket_table.proofs.Walking.RetainingTable.{IsRetained, ends, goes_on, passes, sets_out}
+use Rattle.bucket_table.proofs.Walking.RetainingTable.{IsRetained, ends, goes_on, passes, sets_out, settings_kept, stops}
 use Rattle.bucket_table.proofs.hash_table.HashTable.retain.Given as given
 use Rattle.bucket_table.proofs.hash_table.HashTable.retain.Goals as goal
 use Rattle.bucket_table.proofs.hash_table.HashTable.retain.Goals.{then-len-ne0, else-len-ne0}
@@ -55,3 +55,40 @@ returns-clause-current g c = (all_retained g c).current
 
 pub returns-clause-linked : goal.returns-clause-linked
 returns-clause-linked g c = (all_retained g c).linked
+
+-- no pair is left, so the rest of the row has none
+none_left : (g : given.Over) (c : goal.Then-get-eq0 g) → IsRetained
+    (λ state own before answer after last. given.F-step g state own before answer after last)
+    g.row.TYPE (g.G.Generation.epoch_of c.args.generation.now) c.args.keep.now c.args.self.now.arrays c.loop-bucket.self.arrays
+    c.loop-bucket.count c.loop-bucket.keep
+none_left g c =
+    let row = ap (λ t. length (row_of t.arrays)) c.self-in-loop-bucket.view_is in
+    let held = c.self-in-loop-bucket.invariant.counted in
+    let none : pairs_of c.loop-bucket.self.arrays ≡ [] = rw (← c.self-in-loop-bucket.view_is) (nil_from_length (pairs_of
+    c.self-in-loop-bucket.inside.arrays)
+    (omega (arith, held, c.get.ensures, c.if-get-eq0.true))) in
+    stops _ g.row.TYPE _ c.loop-bucket.invariant.2 (omega (arith, row, c.in-Some.ensures.bucket.0)) none
+
+pub returns-then-get-eq0-clause-retained : goal.returns-then-get-eq0-clause-retained
+returns-then-get-eq0-clause-retained g c = (none_left g c).asked
+
+pub returns-then-get-eq0-clause-count : goal.returns-then-get-eq0-clause-count
+returns-then-get-eq0-clause-count g c = (none_left g c).counted
+
+pub returns-then-get-eq0-clause-current : goal.returns-then-get-eq0-clause-current
+returns-then-get-eq0-clause-current g c = (none_left g c).current
+
+pub returns-then-get-eq0-clause-linked : goal.returns-then-get-eq0-clause-linked
+returns-then-get-eq0-clause-linked g c = (none_left g c).linked
+
+pub returns-then-get-eq0-clause-marks : goal.returns-then-get-eq0-clause-marks
+returns-then-get-eq0-clause-marks g c = (none_left g c).marks
+
+pub returns-then-get-eq0-clause-settings : goal.returns-then-get-eq0-clause-settings
+returns-then-get-eq0-clause-settings g c = settings_kept c.loop-bucket.invariant.1 (none_left g c).shape
+
+pub returns-clause-marks : goal.returns-clause-marks
+returns-clause-marks g c = (all_retained g c).marks
+
+pub returns-clause-settings : goal.returns-clause-settings
+returns-clause-settings g c = settings_kept c.loop-bucket.invariant.1 (all_retained g c).shape

@@ -10,7 +10,7 @@ returns-clause-map g c =
     let keeps = c.touch_place.ensures.map in (
       (
         stands.pair,
-        there_before (g.P.KeyProbe.wants c.args.probe.now) (state_of g.row.TYPE c.args.self.now) _ stands.pair keeps
+        there_before (g.P.KeyProbe.matches c.args.probe.now) (state_of g.row.TYPE c.args.self.now) _ stands.pair keeps
             stands.there,
       ),
       keeps,
@@ -29,7 +29,7 @@ returns-clause-arrays g c =
 pub returns-in_default-clause-map : goal.returns-in_default-clause-map
 returns-in_default-clause-map g c =
     let keeps = c.touch_place.ensures.map in
-    (absent_before (g.P.KeyProbe.wants c.args.probe.now) (state_of g.row.TYPE c.args.self.now) _ keeps c.in_default.ensures.absent, keeps)
+    (absent_before (g.P.KeyProbe.matches c.args.probe.now) (state_of g.row.TYPE c.args.self.now) _ keeps c.in_default.ensures.absent, keeps)
 
 pub returns-in_default-clause-arrays : goal.returns-in_default-clause-arrays
 returns-in_default-clause-arrays g c = record { between = c.touch_place.new.self; prepared = c.in_default.ensures.prepared; done = refl }

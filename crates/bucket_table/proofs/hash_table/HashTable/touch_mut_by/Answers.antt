@@ -14,7 +14,7 @@ invariant_of-self-lent g c value =
 
 pub returns-in-Some : goal.returns-in-Some
 returns-in-Some g c =
-    let wants = g.P.KeyProbe.wants c.args.probe.now in
+    let matches = g.P.KeyProbe.matches c.args.probe.now in
     let o = c.in-Some.spot in
     let own = c.touch_entry_of.result.0.now in
     let here = c.touch_entry_of.ensures.pair in
@@ -24,7 +24,7 @@ returns-in-Some g c =
     let seen = rw (← c.self.view_is) at stands in (
       (
         refl,
-        λ value. lent_writes wants g.row.TYPE _ c.args.self.now between prepared o.side o.index o.at stands own _
+        λ value. lent_writes matches g.row.TYPE _ c.args.self.now between prepared o.side o.index o.at stands own _
             (rw (← c.self.view_is) here) g.L.LruList.KEEPS value _ (rw (← c.self.view_is) refl) (rw (← c.self.view_is)
             (writes_touching g.met.K.Eq.laws g.H.KeyHash.hash_of g.row.TYPE o.side o.index c.self.invariant.one_map seen.within o.at _ here
             g.L.LruList.KEEPS value).map),
@@ -34,7 +34,7 @@ returns-in-Some g c =
         writes_back = tt;
         found = (
           own,
-          lent_there wants g.row.TYPE _ c.args.self.now between prepared o.side o.index o.at stands own _ (rw (← c.self.view_is) here),
+          lent_there matches g.row.TYPE _ c.args.self.now between prepared o.side o.index o.at stands own _ (rw (← c.self.view_is) here),
         );
         absent = tt;
         fixed = c.fetch_spot.ensures.fixed;

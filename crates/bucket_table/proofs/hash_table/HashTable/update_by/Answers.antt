@@ -12,7 +12,7 @@ returns-in-Some-clause-map g c =
       _,
       _,
       c.change.ensures,
-      same_taken (g.P.KeyProbe.wants c.args.probe.now) _ _ stands.pair _ stands.slot stands.there e.pair,
+      same_taken (g.P.KeyProbe.matches c.args.probe.now) _ _ stands.pair _ stands.slot stands.there e.pair,
       then_changed (state_of g.row.TYPE c.args.self.now) (state_of g.row.TYPE c.fetch_spot.new.self) _ _ _
           c.fetch_spot.ensures.prepared.map (e.map c.change.new.arg3),
     )
@@ -33,6 +33,6 @@ returns-in-None-clause-arrays g c = record { between = c.fetch_spot.new.self; pr
 pub change-requires : goal.change-requires
 change-requires g c =
     let stands = c.in-Some.ensures.found in
-    c.requires.callable _ _ (shown_before (g.P.KeyProbe.wants c.args.probe.now) (state_of g.row.TYPE c.args.self.now)
+    c.requires.callable _ _ (shown_before (g.P.KeyProbe.matches c.args.probe.now) (state_of g.row.TYPE c.args.self.now)
     (state_of g.row.TYPE c.fetch_spot.new.self) _ stands.pair _ c.fetch_spot.ensures.prepared.map stands.slot stands.there
     c.entry_mut_at-value.ensures.pair)

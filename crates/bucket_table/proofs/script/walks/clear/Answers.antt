@@ -4,7 +4,7 @@ use Rattle.bucket_table.proofs.script.walks.clear.Goals as goal
 
 pub returns-then-num_slots-eq0-clause-step : goal.returns-then-num_slots-eq0-clause-step
 returns-then-num_slots-eq0-clause-step g c =
-    let none = c.sound.ensures.empty (omega (arith, c.num_slots.ensures, c.if-num_slots-eq0.true)) in
+    let none = c.fact_sound.ensures.empty (omega (arith, c.num_slots.ensures, c.if-num_slots-eq0.true)) in
     clears_all g.row.TYPE c.args.table.now c.args.table.now refl 0 refl refl (none, none_counted (pairs_of c.args.table.now.arrays) none)
 
 pub returns-then-num_slots-eq0-clause-tickets : goal.returns-then-num_slots-eq0-clause-tickets
@@ -15,7 +15,7 @@ returns-in-Ok-clause-step g c =
     let w = c.for_each_writer_sync in
     clears_all g.row.TYPE c.args.table.now w.new.self w.ensures.settings.hasher _ w.ensures.settings.minimum w.ensures.settings.maximum
     (emptied g.row.TYPE (λ e. g.G.Generation.epoch_of e.generation.now) (λ e. e.count) (g.H.KeyHash.hash_of c.args.table.now.hasher)
-    c.args.table.now.arrays c.sound.ensures.empty c.sound.ensures.long (g.met.H.KeyHash.fits c.args.table.now.hasher)
+    c.args.table.now.arrays c.fact_sound.ensures.empty c.fact_sound.ensures.long (g.met.H.KeyHash.fits c.args.table.now.hasher)
     _ _ w.new.visitor w.new.self.arrays refl c.in-Ok.ensures.walked)
 
 pub returns-in-Ok-clause-tickets : goal.returns-in-Ok-clause-tickets

@@ -6,7 +6,7 @@ use Rattle.bucket_table.proofs.script.walks.walk.Goals as goal
 
 pub returns-then-num_slots-eq0-clause-step : goal.returns-then-num_slots-eq0-clause-step
 returns-then-num_slots-eq0-clause-step g c =
-    let none = c.sound.ensures.empty (omega (arith, c.num_slots.ensures, c.if-num_slots-eq0.true)) in
+    let none = c.fact_sound.ensures.empty (omega (arith, c.num_slots.ensures, c.if-num_slots-eq0.true)) in
     (none_counted (pairs_of c.args.table.now.arrays) none, kept (state_of g.row.TYPE c.args.table.now))
 
 pub returns-then-num_slots-eq0-clause-tickets : goal.returns-then-num_slots-eq0-clause-tickets
@@ -15,7 +15,7 @@ returns-then-num_slots-eq0-clause-tickets g c = λ unit. refl
 pub returns-in-Ok-clause-step : goal.returns-in-Ok-clause-step
 returns-in-Ok-clause-step g c = (
   tallied (λ t. t.buckets) (λ t. t.pairs) (g.H.KeyHash.hash_of c.args.table.now.hasher)
-      c.args.table.now.arrays c.sound.ensures.empty c.sound.ensures.long (g.met.H.KeyHash.fits c.args.table.now.hasher)
+      c.args.table.now.arrays c.fact_sound.ensures.empty c.fact_sound.ensures.long (g.met.H.KeyHash.fits c.args.table.now.hasher)
       _ _ c.for_each_reader_sync.new.reader c.for_each_reader_sync.new.self.arrays refl c.in-Ok.ensures.walked,
   c.for_each_reader_sync.ensures.map,
 )

@@ -9,7 +9,7 @@ returns-in-Ok-clause-done g c =
     let laws = g.met.K.Eq.laws in
     let t = c.self.inside.table in
     let b = c.touch_place.new.self in
-    let distinct = c.sound.ensures.one_map.distinct in
+    let distinct = c.fact_sound.ensures.one_map.distinct in
     let keeps = c.touch_place.ensures.map in
     let e = rw c.new.ensures.form at c.in-Ok.ensures in
     let o = c.in-Ok.spot in
@@ -21,7 +21,7 @@ returns-in-Ok-clause-done g c =
 pub make-made-requires : goal.make-made-requires
 make-made-requires g c =
     let e = rw c.new.ensures.form at c.in-Err.ensures in
-    let none = missed g.K.PartialEq.eq g.met.K.Eq.laws c.self.inside.table c.touch_place.new.self c.sound.ensures.one_map.distinct
+    let none = missed g.K.PartialEq.eq g.met.K.Eq.laws c.self.inside.table c.touch_place.new.self c.fact_sound.ensures.one_map.distinct
     (g.K.PartialEq.eq c.args.key) (g.met.K.Eq.laws.congr c.args.key) c.touch_place.ensures.map e.absent in
     (rw (← c.self.view_is) at c.requires.makes) (ap (λ value. is_some value) none)
 

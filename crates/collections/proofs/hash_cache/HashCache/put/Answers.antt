@@ -10,7 +10,7 @@ returns-in-Ok-clause-map g c =
     let eq = g.K.PartialEq.eq in
     let laws = g.met.K.Eq.laws in
     let keeps = c.fetch_place.ensures.prepared.map in
-    let distinct = c.sound.ensures.one_map.distinct in
+    let distinct = c.fact_sound.ensures.one_map.distinct in
     let found = rw c.new.ensures.form at c.in-Ok.ensures.found in
     let congr = laws.congr c.args.key in
     rw (← c.self.view_is) (

@@ -24,7 +24,7 @@ returns-clause-put g c =
     let s = c.put_vacant-outcome.new.self in
     let e = c.put_vacant-outcome.ensures in
     rw (← c.self.view_is) (λ first prepared vacancy. put_vacant g.K.PartialEq.eq g.met.K.Eq.laws g.H.KeyHash.hash_of c.args.key c.args.value
-    c.args.hash first b s prepared (rw (← c.self.view_is) at c.requires.own_hash) c.sound.ensures.one_map.distinct
-    c.sound-2.ensures.one_map.distinct c.put_vacant-outcome.result e.map (e.arrays first prepared vacancy) e.absent
-    c.sound-2.ensures.one_map.placed (c.learn_refused.ensures.current c.args.key c.args.value)
-    (c.learn_refused.ensures.old c.args.key c.args.value))
+    c.args.hash first b s prepared (rw (← c.self.view_is) at c.requires.own_hash) c.fact_sound.ensures.one_map.distinct
+    c.fact_sound-2.ensures.one_map.distinct c.put_vacant-outcome.result e.map (e.arrays first prepared vacancy) e.absent
+    c.fact_sound-2.ensures.one_map.placed (c.fact_refused.ensures.current c.args.key c.args.value)
+    (c.fact_refused.ensures.old c.args.key c.args.value))

@@ -8,6 +8,6 @@ returns-clause-resized g c =
       size = c.size_for.result;
       size_is = c.size_for.ensures.least;
       renewed = did;
-      unique = c.sound-2.ensures.one_map.distinct;
-      gets = kept_or_gone g.K.PartialEq.eq g.met.K.Eq.laws _ did.gone _ c.sound.ensures.one_map.distinct did.parts;
+      unique = c.fact_sound-2.ensures.one_map.distinct;
+      gets = kept_or_gone g.K.PartialEq.eq g.met.K.Eq.laws _ did.gone _ c.fact_sound.ensures.one_map.distinct did.parts;
     })

@@ -5,7 +5,7 @@ pub returns-clause-retained : goal.returns-clause-retained
 returns-clause-retained g c = rw (← c.self.view_is) (record {
   asked = c.retain.ensures.retained;
   kept = record {
-    unique = c.sound.ensures.one_map.distinct;
+    unique = c.fact_sound.ensures.one_map.distinct;
     hasher = c.retain.ensures.settings.hasher;
     minimum = c.retain.ensures.settings.minimum;
     maximum = c.retain.ensures.settings.maximum;

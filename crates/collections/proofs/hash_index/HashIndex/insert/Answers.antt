@@ -8,7 +8,7 @@ use Rattle.collections.proofs.hash_index.HashIndex.insert.Goals as goal
 
 pub returns-clause-map : goal.returns-clause-map
 returns-clause-map g c = rw (← c.self.view_is) (inserts g.K.PartialEq.eq g.met.K.Eq.laws 79 c.self.inside.table
-    c.insert_pair-outcome.new.self c.sound.ensures.one_map.distinct c.sound-2.ensures.one_map.distinct
+    c.insert_pair-outcome.new.self c.fact_sound.ensures.one_map.distinct c.fact_sound-2.ensures.one_map.distinct
     c.args.key c.args.value c.insert_pair-outcome.result
     c.insert_pair-outcome.ensures.map)
 
@@ -21,8 +21,8 @@ returns-clause-marks g c =
 pub returns-clause-memory : goal.returns-clause-memory
 returns-clause-memory g c = λ is. rw (← c.self.view_is) (index_lacks g.H.KeyHash.hash_of c.args.key c.self.inside.table
     c.insert_pair-outcome.new.self
-    c.sound-2.ensures.one_map.placed (c.learn_refused.ensures.current c.args.key c.args.value is)
-    (c.learn_refused.ensures.old c.args.key c.args.value is) c.args.value
+    c.fact_sound-2.ensures.one_map.placed (c.fact_refused.ensures.current c.args.key c.args.value is)
+    (c.fact_refused.ensures.old c.args.key c.args.value is) c.args.value
     g.K.PartialEq.eq c.insert_pair-outcome.result c.args.key c.args.value c.insert_pair-outcome.ensures.map
     c.insert_pair-outcome.ensures.arrays is)
 
@@ -30,5 +30,5 @@ pub returns-clause-slots : goal.returns-clause-slots
 returns-clause-slots g c =
     let puts = c.insert_pair-outcome.ensures.arrays in
     rw (← c.self.view_is) (insertion_grows g.H.KeyHash.hash_of c.args.key c.self.inside.table c.insert_pair-outcome.new.self
-    c.sound-2.ensures.one_map.placed c.sound-2.ensures.beside g.K.PartialEq.eq 79 none_kept c.args.value
+    c.fact_sound-2.ensures.one_map.placed c.fact_sound-2.ensures.beside g.K.PartialEq.eq 79 none_kept c.args.value
     c.insert_pair-outcome.result puts.answer puts.between puts.found puts.done c.insert_pair-outcome.ensures.map)

@@ -7,8 +7,8 @@ use Rattle.collections.specs.Maps.{map_of}
 use Rattle.collections.proofs.Visits.{retains_lent}
 use Rattle.collections.proofs.hash_index.HashIndex.retain.Goals as goal
 
-pub learn_asks-requires : goal.learn_asks-requires
-learn_asks-requires g c = record {
+pub fact_asks-requires : goal.fact_asks-requires
+fact_asks-requires g c = record {
   callable = mut_by _ (λ s. always_mut g.F.FnMut s.0.now) (λ s a i. i)
       (λ s a r t i e. mut_next g.F.FnMut _ _ _ _ _ e.met.1.1.2 refl i) _ c.requires.callable;
 }

@@ -9,10 +9,11 @@ use Rattle.collections.proofs.hash_map.HashMap.add.Goals as goal
 
 pub returns-in_default : goal.returns-in_default
 returns-in_default g c =
-    let kept = kept_stays g.K.PartialEq.eq g.met.K.Eq.laws 83 c.self.inside.table c.sound.ensures.one_map.distinct c.find_absent.new.table
+    let kept = kept_stays g.K.PartialEq.eq g.met.K.Eq.laws 83 c.self.inside.table c.fact_sound.ensures.one_map.distinct
+    c.find_absent.new.table
     c.in_default.ensures.found.prepared.map in
     let lacks = none_found_room 83 g.H.KeyHash.hash_of c.args.key _ c.self.inside.table c.find_absent.new.table
-    c.find_absent.ensures.hashed c.sound-in_default.ensures.one_map.placed c.learn_homes.ensures.current c.learn_homes.ensures.old
+    c.find_absent.ensures.hashed c.fact_sound-in_default.ensures.one_map.placed c.fact_homes.ensures.current c.fact_homes.ensures.old
     c.in_default.ensures.found in
     let grows = unfound_grows g.H.KeyHash.hash_of c.args.key 83 _ c.self.inside.table c.find_absent.new.table
     c.in_default.ensures.found.prepared in
@@ -24,18 +25,19 @@ returns-in_default g c =
 
 pub returns-in-Err : goal.returns-in-Err
 returns-in-Err g c =
-    let kept = kept_stays g.K.PartialEq.eq g.met.K.Eq.laws 83 c.self.inside.table c.sound.ensures.one_map.distinct c.find_absent.new.table
+    let kept = kept_stays g.K.PartialEq.eq g.met.K.Eq.laws 83 c.self.inside.table c.fact_sound.ensures.one_map.distinct
+    c.find_absent.new.table
     c.in-Ok.ensures.found.map in
     let found = c.in-Ok.ensures.found in
     let same = table_same c.lock.result c.insert.new.self _ c.in-Err.ensures.changed refl ∙ c.lock.ensures.unchanged in
-    let homes = rw same at c.learn_homes-in-Err.ensures in
-    let placed = rw same at c.sound-in-Err.ensures.one_map.placed in
+    let homes = rw same at c.fact_homes-in-Err.ensures in
+    let placed = rw same at c.fact_sound-in-Err.ensures.one_map.placed in
     let none = full_there (λ mark. true) c.lock.result.table.now c.find_absent.new.table c.lock.result.side c.in-Ok.side c.lock.result.index
     c.in-Ok.index c.lock.ensures.unchanged c.lock.ensures.side c.lock.ensures.index c.in-Err.ensures.answer.1 in
     let lacks = found_full 83 g.H.KeyHash.hash_of c.args.key _ c.self.inside.table c.find_absent.new.table
     c.find_absent.ensures.hashed placed homes.current homes.old
     (λ e. omega arith) c.in-Ok.side c.in-Ok.index found none in
-    let beside = rw same at c.sound-in-Err.ensures.beside in
+    let beside = rw same at c.fact_sound-in-Err.ensures.beside in
     let own = rw (← c.self.view_is) at c.requires.hashed in
     let grows = full_grows g.H.KeyHash.hash_of c.args.key c.self.inside.table c.find_absent.new.table placed beside c.in-Ok.side
     c.in-Ok.index
@@ -64,12 +66,13 @@ returns g c =
       (
         refl,
         λ value wrote. (
-          added_lent g.K.PartialEq.eq g.met.K.Eq.laws 83 t c.sound.ensures.one_map.distinct c.find_absent.new.table added
+          added_lent g.K.PartialEq.eq g.met.K.Eq.laws 83 t c.fact_sound.ensures.one_map.distinct c.find_absent.new.table added
               (with_value added c.in-Ok.side c.in-Ok.index c.in-Ok-insert.at value) c.args.key c.args.value value
-              (rw (← c.self.view_is) at c.requires.absent) c.in-Ok.ensures.found.map puts c.sound-2.ensures.one_map.distinct
+              (rw (← c.self.view_is) at c.requires.absent) c.in-Ok.ensures.found.map puts c.fact_sound-2.ensures.one_map.distinct
               (rw pair at (e.map value)),
           added_lent_grows g.H.KeyHash.hash_of c.args.key t c.find_absent.new.table added
-              c.sound-2.ensures.one_map.placed c.sound-2.ensures.beside (λ mark. true) c.args.value value c.in-Ok.side c.in-Ok.index
+              c.fact_sound-2.ensures.one_map.placed c.fact_sound-2.ensures.beside (λ mark. true) c.args.value value c.in-Ok.side
+              c.in-Ok.index
               (c.args.hash % 256) c.args.hash c.in-Ok-insert.at own c.in-Ok.ensures.found puts is,
         ),
         tt,

@@ -7,8 +7,8 @@ returns g c =
     let eq = g.K.PartialEq.eq in
     let laws = g.met.K.Eq.laws in
     let t = c.self.inside.table in
-    let distinct = c.sound.ensures.one_map.distinct in
-    let wants = g.Q.KeyForm.stands_for c.new.result.form in
+    let distinct = c.fact_sound.ensures.one_map.distinct in
+    let matches = g.Q.KeyForm.stands_for c.new.result.form in
     let alike = g.met.Q.KeyForm.alike c.new.result.form in
     let loan = c.get_mut_by.result in
     let lent = c.get_mut_by.follows in
@@ -16,8 +16,8 @@ returns g c =
     rw (← c.self.view_is, ← c.new.ensures.form) (
       (
         refl,
-        λ value. lent_replaces eq laws 83 t distinct wants alike false _ loan (lent.lender value) value (lent.holds value),
-        lent_none eq laws 83 t distinct wants alike _ loan lent.lender-at-none lent.holds-at-none found.absent,
+        λ value. lent_replaces eq laws 83 t distinct matches alike false _ loan (lent.lender value) value (lent.holds value),
+        lent_none eq laws 83 t distinct matches alike _ loan lent.lender-at-none lent.holds-at-none found.absent,
       ),
-      record { writes_back = tt; value = lent_value eq laws 83 t distinct wants alike loan found.found found.absent },
+      record { writes_back = tt; value = lent_value eq laws 83 t distinct matches alike loan found.found found.absent },
     )

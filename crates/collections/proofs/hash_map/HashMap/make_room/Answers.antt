@@ -8,7 +8,7 @@ pub rehash_to-requires : goal.rehash_to-requires
 rehash_to-requires g c =
     let slots = c.num_slots-slots.result in
     let shape = subst (λ (n : ℕ). (n ≡ 0) ⊎ IsPowerIn 64 (2 ^ 62) n) (sym c.num_slots-slots.ensures)
-    (slots_of_array _ c.sound.ensures.long) in
+    (slots_of_array _ c.fact_sound.ensures.long) in
     let is : c.max.result ≡ max c.in-Some.least slots = search rules in
     let power : IsPowerIn 64 (2 ^ 62) c.max.result = subst (IsPowerIn 64 (2 ^ 62)) (sym is)
     (greater_in c.in-Some.least slots c.in-Some.ensures.holds.power shape) in

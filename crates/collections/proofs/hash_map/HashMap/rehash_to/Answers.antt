@@ -5,7 +5,8 @@ use Rattle.collections.proofs.hash_map.HashMap.rehash_to.Goals as goal
 
 pub returns-clause-map : goal.returns-clause-map
 returns-clause-map g c = rw (← c.self.view_is) (stays g.K.PartialEq.eq g.met.K.Eq.laws 83 c.self.inside.table
-    c.rehash_to-outcome.new.self c.sound.ensures.one_map.distinct c.sound-2.ensures.one_map.distinct c.rehash_to-outcome.ensures.map)
+    c.rehash_to-outcome.new.self c.fact_sound.ensures.one_map.distinct c.fact_sound-2.ensures.one_map.distinct
+    c.rehash_to-outcome.ensures.map)
 
 pub returns-clause-slots : goal.returns-clause-slots
 returns-clause-slots g c = elim c.match-outcome.branch [

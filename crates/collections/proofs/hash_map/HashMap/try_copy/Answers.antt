@@ -8,7 +8,7 @@ pub returns-in-Some-clause-copy : goal.returns-in-Some-clause-copy
 returns-in-Some-clause-copy g c =
     let own = c.args.self.now in
     let made = c.with_room-roomy in
-    let unique : IsUnique g.K.PartialEq.eq own = rw (← c.self.view_is) c.sound.ensures.one_map.distinct in
+    let unique : IsUnique g.K.PartialEq.eq own = rw (← c.self.view_is) c.fact_sound.ensures.one_map.distinct in
     let hasher : made.result.hasher ≡ own.hasher = rw (← c.self.view_is) (made.ensures.hasher ∙ c.hasher.ensures) in
     let minimum : made.result.minimum ≡ min own.minimum (2 ^ 63) =
     rw (← c.self.view_is) (made.ensures.minimum ∙ ap (λ m. min m (2 ^ 63)) c.minimum_capacity-minimum.ensures) in

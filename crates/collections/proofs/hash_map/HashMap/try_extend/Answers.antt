@@ -1,13 +1,20 @@
-use Rattle.std.proofs.Common.{refl, ◌∙◌}
+use Rattle.std.proofs.Common.{[], refl, ◌∙◌}
 use Rattle.std.proofs.slice.Lists.{chained_more}
 use Rattle.collections.specs.Loans.{Puts}
 use Rattle.collections.specs.Slots.{GrowsSlots}
 use Rattle.std.proofs.iter.Next as it
-use Rattle.collections.proofs.Collecting.{none_put, one_more_put, put_then_stays, upsert_puts}
+use Rattle.collections.proofs.Collecting.{none_put, one_more_put, put_then_stays, stays_then_put, upsert_puts}
 use Rattle.collections.proofs.hash_map.HashMap.try_extend.Goals as goal
 
 pub loop-pair-init : goal.loop-pair-init
-loop-pair-init g c = it.begun c.requires.can c.requires.finite (none_put g.K.PartialEq.eq c.args.self.now c.sound.ensures, refl)
+loop-pair-init g c =
+    let eq = g.K.PartialEq.eq in
+    let stays = c.reserve_for.ensures.stays in
+    it.begun c.requires.can c.requires.finite (
+      stays_then_put eq c.args.self.now c.reserve_for.new.self c.reserve_for.new.self [] stays
+          (none_put eq c.reserve_for.new.self stays.kept.unique),
+      refl,
+    )
 
 pub loop-pair-preserved : goal.loop-pair-preserved
 loop-pair-preserved g c =
@@ -17,7 +24,7 @@ loop-pair-preserved g c =
     it.again inv pair c.in-Some.is (c.next.ensures.steps, c.next.ensures.goes) (
       one_more_put eq c.args.self.now c.loop-pair.self c.upsert.new.self inv.seen pair inv.holds.0
           (upsert_puts eq c.loop-pair.self c.upsert.new.self pair.0 pair.1 c.in-Ok.earlier c.in-Ok.ensures.map),
-      chained_more (λ before p after. Puts eq before p.0 p.1 after × GrowsSlots g.H.KeyHash.hash_of p.0 before after) c.args.self.now
+      chained_more (λ before p after. Puts eq before p.0 p.1 after × GrowsSlots g.H.KeyHash.hash_of p.0 before after) c.reserve_for.new.self
           inv.seen c.loop-pair.self pair c.upsert.new.self inv.holds.1 (
             (upsert_puts eq c.loop-pair.self c.upsert.new.self pair.0 pair.1 c.in-Ok.earlier c.in-Ok.ensures.map),
             c.upsert.ensures.slots,
@@ -33,5 +40,12 @@ returns-in-Err g c =
       it.Gave-then inv c.in-Some.is c.next.ensures.steps,
       put_then_stays g.K.PartialEq.eq c.args.self.now c.loop-pair.self c.upsert.new.self inv.seen inv.holds.0 stays,
       stays.gets c.in-Some.pair.0 ∙ none,
-      (c.loop-pair.self, inv.holds.1, stays, c.in-Err.ensures.memory),
+      (
+        c.reserve_for.new.self,
+        c.loop-pair.self,
+        record { stays = c.reserve_for.ensures.stays; no_fewer = c.reserve_for.ensures.no_fewer },
+        inv.holds.1,
+        stays,
+        c.in-Err.ensures.memory,
+      ),
     )

@@ -16,21 +16,25 @@ pub returns : goal.returns
 returns g c =
     let eq = g.K.PartialEq.eq in
     let laws = g.met.K.Eq.laws in
-    let wants = g.Q.KeyForm.stands_for c.args.key in
+    let matches = g.Q.KeyForm.stands_for c.args.key in
     let alike = g.met.Q.KeyForm.alike c.args.key in
     let t = c.self.inside.table in
-    let distinct = c.sound.ensures.one_map.distinct in
+    let distinct = c.fact_sound.ensures.one_map.distinct in
     let spot = c.in-Some.spot in
     let e = c.entry_mut_at.ensures in
     let stands = rw c.new.ensures.form at c.in-Some.ensures.found in
     let pair : g.row.K.Denot × g.row.V.Denot = (c.entry_mut_at.result.0.now, c.entry_mut_at.result.1.now) in
-    let there = found_is wants (pairs_of t.arrays) stands.pair pair _ stands.slot e.pair stands.there in
+    let there = found_is matches (pairs_of t.arrays) stands.pair pair _ stands.slot e.pair stands.there in
     rw (← c.self.view_is) (
-      (refl, λ value. written_in_place eq laws wants alike pair value there.1 t spot.side spot.index spot.at stands.within e.pair distinct),
+      (
+        refl,
+        λ value. written_in_place eq laws matches alike pair value there.1 t spot.side spot.index spot.at stands.within e.pair
+            distinct,
+      ),
       record {
         writes_back = tt;
-        value = form_there eq laws wants alike (pairs_of t.arrays) pair distinct there.0 there.1;
-        written = λ value. holds_in_place eq laws wants alike pair value there.1 83 t spot.side spot.index spot.at stands.within e.pair
+        value = form_there eq laws matches alike (pairs_of t.arrays) pair distinct there.0 there.1;
+        written = λ value. holds_in_place eq laws matches alike pair value there.1 83 t spot.side spot.index spot.at stands.within e.pair
             distinct (e.map value);
       },
     )

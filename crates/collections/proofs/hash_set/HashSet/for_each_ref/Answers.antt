@@ -6,8 +6,8 @@ use Rattle.collections.specs.Keys.{CallsEachKey}
 use Rattle.collections.proofs.Visits.{callable_after, keys_visited}
 use Rattle.collections.proofs.hash_set.HashSet.for_each_ref.Goals as goal
 
-pub learn_visits-requires : goal.learn_visits-requires
-learn_visits-requires g c = record {
+pub fact_visits-requires : goal.fact_visits-requires
+fact_visits-requires g c = record {
   callable = mut_by _ (λ s. always_mut g.F.FnMut s.0.now) (λ s a i. i)
       (λ s a r t i e. mut_next g.F.FnMut _ _ _ _ _ e.met.1.called refl i) _ c.requires.callable;
 }

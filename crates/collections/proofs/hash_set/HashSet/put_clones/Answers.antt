@@ -5,7 +5,7 @@ use Rattle.collections.proofs.hash_set.HashSet.put_clones.Goals as goal
 pub loop-key-init : goal.loop-key-init
 loop-key-init g c =
     it.begun c.requires.can c.requires.finite
-    (no_clone_put g.K.PartialEq.eq g.met.K.Eq.laws g.K.Clone.is_clone c.args.self.now (rw (← c.self.view_is) c.sound.ensures))
+    (no_clone_put g.K.PartialEq.eq g.met.K.Eq.laws g.K.Clone.is_clone c.args.self.now (rw (← c.self.view_is) c.fact_sound.ensures))
 
 pub loop-key-preserved : goal.loop-key-preserved
 loop-key-preserved g c =

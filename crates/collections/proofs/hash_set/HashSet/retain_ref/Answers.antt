@@ -5,8 +5,8 @@ use Rattle.collections.specs.Keys.{RetainsKeys}
 use Rattle.collections.proofs.Visits.{askable_after, keys_asked}
 use Rattle.collections.proofs.hash_set.HashSet.retain_ref.Goals as goal
 
-pub learn_asks-requires : goal.learn_asks-requires
-learn_asks-requires g c = record {
+pub fact_asks-requires : goal.fact_asks-requires
+fact_asks-requires g c = record {
   callable = mut_by _ (λ s. always_mut g.F.FnMut s.0.now) (λ s a i. i)
       (λ s a r t i e. mut_next g.F.FnMut _ _ _ _ _ e.met.1.called refl i) _ c.requires.callable;
 }

@@ -8,7 +8,7 @@ use bucket_table::key_hash::KeyHash;
 use std::alloc::{AllocFailed, Global};
 
 impl<'a, K: Eq + Drop, V: Drop, H: KeyHash<K>, Q: KeyForm<K, H>> VacantEntryRef<'a, K, V, H, Q> {
-    ghost use Rattle.collections.specs.Loans.{LendsWanted};
+    ghost use Rattle.collections.specs.Loans.{LendsMatched};
 
     /// Inserts a key that the form stands for, with a value, and returns a mutable reference to
     /// that value. When the borrow ends, the map has one more pair: the key with the value last
@@ -22,14 +22,14 @@ impl<'a, K: Eq + Drop, V: Drop, H: KeyHash<K>, Q: KeyForm<K, H>> VacantEntryRef<
     /// O(1) expected, plus any resize. hashbrown: `VacantEntryRef::insert_with_key`.
     pub fn insert_with_key(self, key: K, value: V) -> Result<&'a mut V, AllocFailed<(K, V)>>
         ensures* writes_back { sem 𝓛
-            (LendsWanted K.row V.row H.row K.PartialEq H.KeyHash self.entry.map
+            (LendsMatched K.row V.row H.row K.PartialEq H.KeyHash self.entry.map
             (Q.stands_for self.entry.form) key result) }
         ensures value { IfOk result (λ lent. lent.now ≡ value) }
         ensures pair_returned { IfErr result (λ back. back.value ≡ (key, value)) }
     {
         let VacantEntryRef { map, form, hash } = self;
         if !form.stands_for(&key) {
-            map.sound();
+            map.fact_sound();
             return Err(AllocFailed {
                 value: (key, value),
             });
@@ -59,7 +59,7 @@ impl<'a, K: Eq + Drop, V: Drop, H: KeyHash<K>, Q: ToKey<K, H>> VacantEntryRef<'a
     {
         let VacantEntryRef { map, form, hash } = self;
         let Ok(key) = form.to_key(alloc) else {
-            map.sound();
+            map.fact_sound();
             return Err(AllocFailed { value });
         };
         match map.add(hash, key, value) {

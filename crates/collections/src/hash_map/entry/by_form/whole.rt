@@ -68,7 +68,7 @@ impl<'a, K: Eq + Drop, V: Drop, H: KeyHash<K>, Q: KeyForm<K, H>> EntryRef<'a, K,
 
 impl<'a, K: Eq + Drop, V: Drop, H: KeyHash<K>, Q: ToKey<K, H>> EntryRef<'a, K, V, H, Q> {
     ghost use Rattle.collections.specs.EntryRefs.{is_ref_occupied, ref_form, ref_map};
-    ghost use Rattle.collections.specs.Loans.{LendsPutWanted};
+    ghost use Rattle.collections.specs.Loans.{LendsPutMatched};
 
     /// Returns a mutable reference to the value under the key; if the map contains none of the
     /// keys, it first makes one from the form and inserts it with the default. When the borrow
@@ -83,7 +83,7 @@ impl<'a, K: Eq + Drop, V: Drop, H: KeyHash<K>, Q: ToKey<K, H>> EntryRef<'a, K, V
     /// O(1) expected, plus making the key and any resize. hashbrown: `EntryRef::or_insert`.
     pub fn or_insert(self, default: V, alloc: Global) -> Result<&'a mut V, AllocFailed<V>>
         ensures* writes_back { sem 𝓛
-            (LendsPutWanted K.row V.row H.row K.PartialEq H.KeyHash (ref_map self.entry)
+            (LendsPutMatched K.row V.row H.row K.PartialEq H.KeyHash (ref_map self.entry)
             (Q.may_lack (ref_form self.entry)) (Q.stands_for (ref_form self.entry)) result) }
         ensures value { IfOk result (λ lent. lent.now ≡ unwrap_or
             (get_by (Q.stands_for (ref_form self.entry)) (ref_map self.entry).now) default) }
@@ -115,7 +115,7 @@ impl<'a, K: Eq + Drop, V: Drop, H: KeyHash<K>, Q: ToKey<K, H>> EntryRef<'a, K, V
     ) -> Result<&'a mut V, AllocFailed<V>>
         requires callable { is_ref_occupied self ≡ false → F.pre make }
         ensures* writes_back { sem 𝓛
-            (LendsPutWanted K.row V.row H.row K.PartialEq H.KeyHash (ref_map self.entry)
+            (LendsPutMatched K.row V.row H.row K.PartialEq H.KeyHash (ref_map self.entry)
             (Q.may_lack (ref_form self.entry)) (Q.stands_for (ref_form self.entry)) result) }
         ensures value { IfOk result (λ lent. MatchOption
             (get_by (Q.stands_for (ref_form self.entry)) (ref_map self.entry).now)
@@ -145,7 +145,7 @@ impl<'a, K: Eq + Drop, V: Drop, H: KeyHash<K>, Q: ToKey<K, H>> EntryRef<'a, K, V
     where
         V: MadeWith<Global>,
         ensures* writes_back { sem 𝓛
-            (LendsPutWanted K.row V.row H.row K.PartialEq H.KeyHash (ref_map self.entry)
+            (LendsPutMatched K.row V.row H.row K.PartialEq H.KeyHash (ref_map self.entry)
             (Q.may_lack (ref_form self.entry)) (Q.stands_for (ref_form self.entry)) result) }
         ensures value { IfOk result (λ lent. MatchOption
             (get_by (Q.stands_for (ref_form self.entry)) (ref_map self.entry).now)

@@ -23,8 +23,8 @@ overflow_add-len g c =
     let made = c.get-made.ensures ∙ c.more.invariant.counted in
     record { fits = omega (arith, len, made, c.self.invariant.chain.few, c.more.invariant.chain.few) }
 
-pub room-requires : goal.room-requires
-room-requires g c = omega (arith, ap length c.more.view_is, c.if-made-gt0.true, c.get-made.ensures, c.more.invariant.counted)
+pub fact_room-requires : goal.fact_room-requires
+fact_room-requires g c = omega (arith, ap length c.more.view_is, c.if-made-gt0.true, c.get-made.ensures, c.more.invariant.counted)
 
 pub append-requires-clause-counted : goal.append-requires-clause-counted
 append-requires-clause-counted g c = c.get-len.ensures ∙ c.self.invariant.counted

@@ -1,5 +1,5 @@
 use Rattle.bucket_slots.proofs.Words.{None, Some, [], ap, arith, common_steps, count_by, drop, flattened, get_or_read, has_byte}
-use Rattle.bucket_slots.proofs.Words.{is_wanted, length, position, sum_by-append, sym, ◌+◌, ◌-◌, ◌∙◌, ◌∷◌, ◌≡◌}
+use Rattle.bucket_slots.proofs.Words.{is_match, length, position, sum_by-append, sym, ◌+◌, ◌-◌, ◌∙◌, ◌∷◌, ◌≡◌}
 use Rattle.bucket_slots.proofs.BoxedWalks.{drop_behind, fewer_behind, length-some, row_behind}
 use Rattle.bucket_slots.proofs.Counting.{tally}
 use Rattle.bucket_slots.proofs.bucket.chain.Chain.find_by.Goals as goal
@@ -10,8 +10,8 @@ returns-in-Some-find_by-clause-place g c =
     ∙ ap (λ block. block.row ∷ block.next) (sym c.deref.ensures) in
     let row = c.deref.result.now.row in
     let behind = c.deref.result.now.next in
-    let here : position (is_wanted (g.P.KeyProbe.wants c.args.probe.now) c.args.byte) row ≡ Some c.in-Some-find_by.pos =
-    ap (λ t. position (is_wanted t c.args.byte) row) (sym c.loop-at.invariant.fixed) ∙ sym c.in-Some-find_by.ensures.place in
+    let here : position (is_match (g.P.KeyProbe.matches c.args.probe.now) c.args.byte) row ≡ Some c.in-Some-find_by.pos =
+    ap (λ t. position (is_match t c.args.byte) row) (sym c.loop-at.invariant.fixed) ∙ sym c.in-Some-find_by.ensures.place in
     grind (arith, common_steps)
 
 pub returns-in-Some-find_by-clause-pair : goal.returns-in-Some-find_by-clause-pair
@@ -46,8 +46,8 @@ loop-at-preserved g c =
     let step = ap (λ rows. count_by (has_byte c.args.byte) (flattened rows)) some in
     let next = ap (λ block. block.next) (c.deref-in-Some.ensures ∙ sym c.deref.ensures) in
     let up : c.loop-at.number - 1 + 1 ≡ c.loop-at.number + 1 - 1 = omega (arith, c.loop-at.invariant.one) in
-    let here : position (is_wanted (g.P.KeyProbe.wants c.args.probe.now) c.args.byte) row ≡ None =
-    ap (λ t. position (is_wanted t c.args.byte) row) (sym c.loop-at.invariant.fixed) ∙ sym c.in_default-find_by.ensures.place in
+    let here : position (is_match (g.P.KeyProbe.matches c.args.probe.now) c.args.byte) row ≡ None =
+    ap (λ t. position (is_match t c.args.byte) row) (sym c.loop-at.invariant.fixed) ∙ sym c.in_default-find_by.ensures.place in
     let bytes = ap (λ rows. count_by (has_byte c.args.byte) (flattened rows)) next in
     record {
       one = omega arith;

@@ -66,8 +66,8 @@ pub overflow_add-block-then-block-len : goal.overflow_add-block-then-block-len
 overflow_add-block-then-block-len g c =
     record { fits = omega (arith, c.requires.within, ap length c.self.view_is, c.self.invariant.chain.few) }
 
-pub room-requires : goal.room-requires
-room-requires g c = omega (arith, c.requires.within)
+pub fact_room-requires : goal.fact_room-requires
+fact_room-requires g c = omega (arith, c.requires.within)
 
 pub walk-link-requires-clause-within : goal.walk-link-requires-clause-within
 walk-link-requires-clause-within g c = omega (arith, ap length c.self.view_is, c.requires.within)

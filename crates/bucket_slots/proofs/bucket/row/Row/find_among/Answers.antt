@@ -1,16 +1,16 @@
-use Rattle.bucket_slots.proofs.Words.{IsLeft, arith, false, free, has_byte, is_wanted, refl, sym, ◌∙◌, ◌≡◌}
+use Rattle.bucket_slots.proofs.Words.{IsLeft, arith, false, free, has_byte, is_match, refl, sym, ◌∙◌, ◌≡◌}
 use Rattle.bucket_slots.proofs.Bitmaps.{ones-cleared, ones-some}
 use Rattle.bucket_slots.proofs.FilledPlaces.{fits_w64}
 use Rattle.bucket_slots.proofs.FirstPlaces.{live_occupied}
 use Rattle.bucket_slots.proofs.Masks.{IsLeft-first, IsLeft-next, ones-mask, position-left, position-none_left}
-use Rattle.bucket_slots.proofs.RowMasks.{candidate_live, candidate_wanted, unwanted}
+use Rattle.bucket_slots.proofs.RowMasks.{candidate_live, candidate_matched, unmatched}
 use Rattle.bucket_slots.proofs.bucket.row.Row.find_among.Goals as goal
 
 pub loop-left-init : goal.loop-left-init
 loop-left-init g c =
-    let want = is_wanted (g.P.KeyProbe.wants c.args.probe.now) c.args.byte in
+    let want = is_match (g.P.KeyProbe.matches c.args.probe.now) c.args.byte in
     record {
-      left = IsLeft-first (has_byte c.args.byte) (λ slot. want slot ≡ false) free c.args.self.now _ refl (unwanted _ c.args.byte)
+      left = IsLeft-first (has_byte c.args.byte) (λ slot. want slot ≡ false) free c.args.self.now _ refl (unmatched _ c.args.byte)
           c.requires;
       few = omega (arith, ones-mask (has_byte c.args.byte) c.args.self.now _ c.requires);
       fixed = refl;
@@ -18,10 +18,10 @@ loop-left-init g c =
 
 pub returns-then-same-clause-place : goal.returns-then-same-clause-place
 returns-then-same-clause-place g c =
-    let want = is_wanted (g.P.KeyProbe.wants c.args.probe.now) c.args.byte in
+    let want = is_match (g.P.KeyProbe.matches c.args.probe.now) c.args.byte in
     let left = c.loop-left.invariant.left in
     let here = left.waiting _ c.lowest_bit-pos.ensures.set in
-    let said = candidate_wanted _ _ c.args.byte _ _ _ _ here c.pair.ensures c.loop-left.invariant.fixed c.same.ensures.answer in
+    let said = candidate_matched _ _ c.args.byte _ _ _ _ here c.pair.ensures c.loop-left.invariant.fixed c.same.ensures.answer in
     sym (position-left (has_byte c.args.byte) want free c.args.self.now _ _ refl left c.lowest_bit-pos.ensures (said ∙ c.if-same.true))
 
 pub returns-then-same-clause-few : goal.returns-then-same-clause-few
@@ -30,10 +30,10 @@ returns-then-same-clause-few g c =
 
 pub loop-left-preserved : goal.loop-left-preserved
 loop-left-preserved g c =
-    let want = is_wanted (g.P.KeyProbe.wants c.args.probe.now) c.args.byte in
+    let want = is_match (g.P.KeyProbe.matches c.args.probe.now) c.args.byte in
     let left = c.loop-left.invariant.left in
     let here = left.waiting _ c.lowest_bit-pos.ensures.set in
-    let said = candidate_wanted _ _ c.args.byte _ _ _ _ here c.pair.ensures c.loop-left.invariant.fixed c.same.ensures.answer in
+    let said = candidate_matched _ _ c.args.byte _ _ _ _ here c.pair.ensures c.loop-left.invariant.fixed c.same.ensures.answer in
     let fewer = ones-cleared _ _ _ c.without_bit-left.ensures.bits c.lowest_bit-pos.ensures.set in
     record {
       left = IsLeft-next (has_byte c.args.byte) (λ slot. want slot ≡ false) free c.args.self.now c.args.self.now _ _ _ left
@@ -44,7 +44,7 @@ loop-left-preserved g c =
 
 pub returns-clause-place : goal.returns-clause-place
 returns-clause-place g c =
-    let want = is_wanted (g.P.KeyProbe.wants c.args.probe.now) c.args.byte in
+    let want = is_match (g.P.KeyProbe.matches c.args.probe.now) c.args.byte in
     let left : IsLeft (has_byte c.args.byte) (λ slot. want slot ≡ false) free c.args.self.now c.loop-left.left =
     c.loop-left.invariant.left in
     sym (position-none_left (has_byte c.args.byte) want free c.args.self.now (rw c.loop-left-test.false at left))

@@ -45,7 +45,7 @@ loop-left-preserved g c =
     let placed = ap (λ b. set targets i b) (filled ∙ ap (λ b. slots_with b pair (number % 256)) c.target_at-target.ensures.bucket
     ∙ ap (λ p. slots_with (bucket_at targets i) p (number % 256)) same) in
     let once = subst IsRecencyOrder c.unlist.ensures.order (g.met.L.LruList.distinct _ _ c.unlist.ensures.tail).0 in
-    let laws : IsBucketOf g.row.TYPE (bucket_at targets i) = rw (← c.target_at-target.ensures.bucket) c.sound.ensures in
+    let laws : IsBucketOf g.row.TYPE (bucket_at targets i) = rw (← c.target_at-target.ensures.bucket) c.fact_sound.ensures in
     let next = spreading_next _ _ _ _ _ _ _ _ _ _ _ _ _ _ c.loop-left.invariant.0 _ c.lowest_bit-pos.ensures _
     (c.without_lowest-left.ensures.bits _ c.lowest_bit-pos.ensures) once key value c.pair.ensures number
     c.hash_of-hash.ensures i within_targets (search rules, named) laws in (

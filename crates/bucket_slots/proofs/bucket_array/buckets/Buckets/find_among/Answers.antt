@@ -15,4 +15,4 @@ made-requires g c =
     (search rules, (search rules, (c.requires.long, (c.requires.within, alive))))
 
 pub find_among-requires : goal.find_among-requires
-find_among-requires g c = rw c.made.ensures (c.room.ensures, (search rules, (c.requires.mask, c.requires.chainless)))
+find_among-requires g c = rw c.made.ensures (c.fact_room.ensures, (search rules, (c.requires.mask, c.requires.chainless)))

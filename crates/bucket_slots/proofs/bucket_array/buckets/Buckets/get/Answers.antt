@@ -16,7 +16,7 @@ bucket-requires g c =
     let place = long_place _ _ _ _ c.self.invariant.0 many _ _ _ _ c.self.view_is c.requires at.part at.offset in
     let here = get_or_read c.self.inside.parts.items c.place_of-part.result.0 c.index-2.result.now place.within c.index-2.ensures [] in
     let inside : c.place_of-part.result.1 < length c.index-2.result.now = rw here place.inside in
-    (search rules, (c.room.ensures, (inside, (long_parts c.self.invariant.0 many).spare_is)))
+    (search rules, (c.fact_room.ensures, (inside, (long_parts c.self.invariant.0 many).spare_is)))
 
 pub returns : goal.returns
 returns g c =

@@ -17,7 +17,7 @@ bucket_mut-requires g c =
     let here = get_or_read c.self.inside.parts.items c.place_of-part.result.0 c.index_mut-held.result.now place.within
     c.index_mut-held.ensures.value [] in
     let inside : c.place_of-part.result.1 < length c.index_mut-held.result.now = rw here place.inside in
-    (search rules, (c.room.ensures, (c.room.ensures, inside)))
+    (search rules, (c.fact_room.ensures, (c.fact_room.ensures, inside)))
 
 pub invariant_of-self-lent : goal.invariant_of-self-lent
 invariant_of-self-lent g c w =

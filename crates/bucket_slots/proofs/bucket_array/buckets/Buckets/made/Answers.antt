@@ -17,7 +17,7 @@ made_bucket-requires g c =
     let here = get_or_read c.self.inside.parts.items c.place_of-part.result.0 c.index.result.now place.within c.index.ensures [] in
     let read = ap (λ part. get_or part c.place_of-part.result.1 empty_bucket) here ∙ place.read in
     let inside : c.place_of-part.result.1 < length c.index.result.now = rw here place.inside in
-    (search rules, (c.room.ensures, (inside, rw read c.requires.live_slot)))
+    (search rules, (c.fact_room.ensures, (inside, rw read c.requires.live_slot)))
 
 pub returns : goal.returns
 returns g c =

@@ -18,7 +18,7 @@ made_bucket_mut-requires g c =
     c.index_mut-held.ensures.value [] in
     let inside : c.place_of-part.result.1 < length c.index_mut-held.result.now = rw here place.inside in
     let read = ap (λ part. get_or part c.place_of-part.result.1 empty_bucket) here ∙ place.read in
-    (search rules, (c.room.ensures, (inside, rw read c.requires.live_slot)))
+    (search rules, (c.fact_room.ensures, (inside, rw read c.requires.live_slot)))
 
 pub invariant_of-self-lent : goal.invariant_of-self-lent
 invariant_of-self-lent g c w =

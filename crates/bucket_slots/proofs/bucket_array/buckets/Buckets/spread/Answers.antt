@@ -20,7 +20,7 @@ spread-requires g c =
     let here = get_or_read c.self.inside.parts.items c.place_of-part.result.0 c.index_mut-held.result.now place.within
     c.index_mut-held.ensures.value [] in (
       search rules,
-      (c.room.ensures, (c.room.ensures, (c.requires.callable, (rw here place.inside, (c.requires.shift, c.requires.bounded))))),
+      (c.fact_room.ensures, (c.fact_room.ensures, (c.requires.callable, (rw here place.inside, (c.requires.shift, c.requires.bounded))))),
     )
 
 pub invariant_of-self : goal.invariant_of-self

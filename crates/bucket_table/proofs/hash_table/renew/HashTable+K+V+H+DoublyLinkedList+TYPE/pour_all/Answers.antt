@@ -22,7 +22,7 @@ pour_bucket-requires g c =
     let parts = next_bucket source index bucket c.in-Some.ensures.bucket.0 in (
       search rules,
       (
-        c.row_room.ensures,
+        c.fact_row_room.ensures,
         (
           c.requires.cache,
           subst (λ (b : BucketView g.row.K.Denot g.row.V.Denot). Awaits g.K.PartialEq.eq c.buckets.self (pairs_by_age b))

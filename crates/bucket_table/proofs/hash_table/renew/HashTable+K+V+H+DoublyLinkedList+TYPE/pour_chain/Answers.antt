@@ -8,8 +8,8 @@ pub pairs-init : goal.pairs-init
 pairs-init g c =
     let bucket = c.args.bucket.now in (
       pour_begins g.met.K.Eq.laws g.H.KeyHash.hash_of c.args.self.now (chain_pairs bucket) (pairs_ahead bucket c.own_slot-at.result)
-          (chain_ahead bucket c.own_slot-at.result c.sound.ensures.own_long c.own_slot-at.ensures) c.requires.awaits,
-      keeps_at_first bucket c.own_slot-at.result c.sound.ensures.own_long c.own_slot-at.ensures,
+          (chain_ahead bucket c.own_slot-at.result c.fact_sound.ensures.own_long c.own_slot-at.ensures) c.requires.awaits,
+      keeps_at_first bucket c.own_slot-at.result c.fact_sound.ensures.own_long c.own_slot-at.ensures,
     )
 
 pub pour_pair-requires : goal.pour_pair-requires

@@ -11,7 +11,7 @@ slots-init g c =
     let slots = c.slots_by_use-slots.result in
     let few : length slots ≤ 32 = omega (arith, c.slots_by_use-slots.type_inv) in (
       pour_begins g.met.K.Eq.laws g.H.KeyHash.hash_of c.args.self.now (own_by_age bucket) (own_backwards bucket (take 32 slots))
-          (all_at_first bucket slots c.sound.ensures.own_long c.slots_by_use-slots.ensures few) c.requires.awaits,
+          (all_at_first bucket slots c.fact_sound.ensures.own_long c.slots_by_use-slots.ensures few) c.requires.awaits,
       c.slots_by_use-slots.ensures,
       omega arith,
     )

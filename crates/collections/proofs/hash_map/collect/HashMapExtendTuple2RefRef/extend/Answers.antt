@@ -6,7 +6,7 @@ use Rattle.collections.proofs.hash_map.collect.HashMapExtendTuple2RefRef.extend.
 pub loop-pair-init : goal.loop-pair-init
 loop-pair-init g c =
     let eq = g.K.PartialEq.eq in
-    let stays = c.reserve_for.ensures in
+    let stays = c.reserve_for.ensures.stays in
     stays_then_put eq c.args.self.now c.reserve_for.new.self c.reserve_for.new.self [] stays
     (none_put eq c.reserve_for.new.self stays.kept.unique)
 

@@ -5,14 +5,14 @@ pub invariant_of-self : goal.invariant_of-self
 invariant_of-self g c =
     let eq = g.K.PartialEq.eq in
     let place = c.args.self.now in
-    let wants = eq place.key in
+    let matches = eq place.key in
     let after = c.change.new.arg2 in
     let lent = c.get_mut_hashed.follows in
-    let found = replaces_there eq place.map.now (lent.lender after) wants c.get_mut_hashed.result c.in-Some.value after c.in-Some.is
+    let found = replaces_there eq place.map.now (lent.lender after) matches c.get_mut_hashed.result c.in-Some.value after c.in-Some.is
     (lent.holds after) in
     record {
       hashed = hash_stays eq g.H.KeyHash.hash_of place.key place.hash place.map.now (lent.lender after) found.1.kept place.hashed;
-      there = still_there eq place.map.now (lent.lender after) wants c.get_mut_hashed.result c.in-Some.value after c.in-Some.is
+      there = still_there eq place.map.now (lent.lender after) matches c.get_mut_hashed.result c.in-Some.value after c.in-Some.is
           (lent.holds after) g.met.K.Eq.laws (g.met.K.Eq.laws.congr place.key);
     }
 

@@ -29,7 +29,7 @@ returns-in-Err g c =
         refl,
         λ value is. absurd cc,
         (
-          stays_same g.K.PartialEq.eq map c.sound.ensures,
+          stays_same g.K.PartialEq.eq map c.fact_sound.ensures,
           keeps_grows g.H.KeyHash.hash_of c.args.self.key map _ (slots_same map _ refl refl),
         ),
       ),

@@ -8,7 +8,7 @@ use Rattle.collections.proofs.hash_map.values.HashMap+K+unit+H.swap_key.Goals.{i
 pub returns-clause-keys : goal.returns-clause-keys
 returns-clause-keys g c =
     let all = swaps_key g.K.PartialEq.eq g.met.K.Eq.laws c.args.key 83 c.self.inside.table c.replace-outcome.new.self
-    c.sound.ensures.one_map.distinct c.sound-2.ensures.one_map.distinct c.replace-outcome.result c.replace-outcome.ensures.map in
+    c.fact_sound.ensures.one_map.distinct c.fact_sound-2.ensures.one_map.distinct c.replace-outcome.result c.replace-outcome.ensures.map in
     rw (← c.self.view_is) (elim c.match-outcome.branch [
       | in-Ok w ↦ rw w.result-is (rw w.in-Ok.is at all)
       | in-Err w ↦ rw w.result-is (rw w.in-Err.is at all)

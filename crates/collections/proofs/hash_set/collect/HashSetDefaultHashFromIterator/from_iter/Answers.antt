@@ -5,8 +5,8 @@ pub returns-in-Ok : goal.returns-in-Ok
 returns-in-Ok g c =
     let made = c.new-set.ensures in
     let put = c.in-Ok.ensures in
-    let puts = keys_into_new g.K.PartialEq.eq g.met.K.Eq.laws c.new-set.result c.try_reserve.new.self c.try_extend.new.self put.0 made.empty
-    made.minimum made.maximum made.slots made.buckets c.try_reserve.ensures.stays put.2 in
+    let puts = keys_into_new g.K.PartialEq.eq g.met.K.Eq.laws c.new-set.result c.try_extend.new.self put.0 made.empty
+    made.minimum made.maximum made.slots made.buckets put.2 in
     record {
       ran = (
         c.into_iter-keys.result,

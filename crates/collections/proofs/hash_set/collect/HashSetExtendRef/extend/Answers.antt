@@ -7,7 +7,7 @@ pub loop-key-init : goal.loop-key-init
 loop-key-init g c =
     let eq = g.K.PartialEq.eq in
     let laws = g.met.K.Eq.laws in
-    let stays = c.reserve_for.ensures in
+    let stays = c.reserve_for.ensures.stays in
     stays_then_keys eq laws c.args.self.now c.reserve_for.new.self c.reserve_for.new.self [] stays
     (no_key_put eq laws c.reserve_for.new.self stays.kept.unique)
 

@@ -31,13 +31,13 @@ returns-in-Vacant g c =
     let default = c.args.default in
     let lent = c.insert.follows in
     let place = c.in-Vacant.entry in
-    let wants = g.Q.KeyForm.stands_for place.form in
-    let held = get_by wants place.map.now in
+    let matches = g.Q.KeyForm.stands_for place.form in
+    let held = get_by matches place.map.now in
     rw c.in-Vacant.is (
       (
         refl,
         λ value is. (
-          puts_new g.K.PartialEq.eq place.map.now wants value (lent.lender value) place.absent (lent.holds value is).0,
+          puts_new g.K.PartialEq.eq place.map.now matches value (lent.lender value) place.absent (lent.holds value is).0,
           (lent.holds value is).1,
         ),
         lent.holds-at-none,

@@ -5,14 +5,14 @@ pub invariant_of-self : goal.invariant_of-self
 invariant_of-self g c =
     let eq = g.K.PartialEq.eq in
     let place = c.args.self.now in
-    let wants = g.Q.KeyForm.stands_for place.form in
+    let matches = g.Q.KeyForm.stands_for place.form in
     let after = c.change.new.arg2 in
     let lent = c.get_mut_hashed.follows in
-    let found = replaces_there eq place.map.now (lent.lender after) wants c.get_mut_hashed.result c.in-Some.value after c.in-Some.is
+    let found = replaces_there eq place.map.now (lent.lender after) matches c.get_mut_hashed.result c.in-Some.value after c.in-Some.is
     (lent.holds after) in
     record {
-      hashed = hashes_stay eq g.H.KeyHash.hash_of wants place.hash place.map.now (lent.lender after) found.1.kept place.hashed;
-      there = still_there eq place.map.now (lent.lender after) wants c.get_mut_hashed.result c.in-Some.value after c.in-Some.is
+      hashed = hashes_stay eq g.H.KeyHash.hash_of matches place.hash place.map.now (lent.lender after) found.1.kept place.hashed;
+      there = still_there eq place.map.now (lent.lender after) matches c.get_mut_hashed.result c.in-Some.value after c.in-Some.is
           (lent.holds after) g.met.K.Eq.laws (g.met.Q.KeyForm.alike place.form);
     }
 

@@ -16,7 +16,7 @@ returns g c =
       (
         refl,
         λ value is. (wanted, (lent.holds value is).0, (lent.holds value is).1),
-        kept c.add.result (λ stays. (stays.0, (λ wants. stays.1), stays.2)) lent.holds-at-none,
+        kept c.add.result (λ stays. (stays.0, (λ matches. stays.1), stays.2)) lent.holds-at-none,
       ),
       record { writes_back = tt; value = c.add.ensures.value; pair_returned = c.add.ensures.pair_returned },
     )
@@ -29,8 +29,8 @@ returns-then-not-stands_for g c =
         refl,
         λ value is. absurd cc,
         (
-          stays_same g.K.PartialEq.eq map c.sound.ensures,
-          (λ wants. absurd (true≢false (sym wants ∙ other))),
+          stays_same g.K.PartialEq.eq map c.fact_sound.ensures,
+          (λ matches. absurd (true≢false (sym matches ∙ other))),
           keeps_grows g.H.KeyHash.hash_of c.args.key map _ (slots_same map _ refl refl),
         ),
       ),

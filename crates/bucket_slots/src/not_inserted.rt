@@ -1,12 +1,20 @@
 //! The error of an insertion, with the pair.
 ghost use Rattle.std.specs.Prelude.{◌≡◌};
 ghost use Rattle.std.specs.IoError.{error_kind};
-ghost use Rattle.bucket_table.specs.Map.Refusals.{kind_of_refusal, pair_of_refusal};
+ghost use Rattle.bucket_slots.specs.Refusals.{kind_of_refusal, pair_of_refusal};
 
-use crate::hash_table::NotInserted;
 use std::error::Error;
 use std::fmt::{self, Debug};
 use std::io::{self, ErrorKind};
+
+/// Why a pair wasn't inserted, with the pair.
+#[derive(Debug, Drop)]
+pub enum NotInserted<K, V> {
+    /// An equal key is present.
+    Present(K, V),
+    /// Allocation failed.
+    Memory(K, V),
+}
 
 impl<K, V> NotInserted<K, V> {
     /// Returns the pair, whatever the cause of the error.
