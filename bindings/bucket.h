@@ -135,9 +135,8 @@ size_t bucket_len(const bucket_handle *handle);
 /* Returns the number of slots of the current array; 0 if closed. O(1). */
 size_t bucket_capacity(const bucket_handle *handle);
 
-/* Drops all pairs; the seed and the limits on the number of slots stay. A map, a set or a store keeps its slots, which bucket_shrink
- * frees; a cache frees them. The minimum is 64, or as many slots as the `capacity` of a map or a store needs, if that is more;
- * bucket_shrink sets it to 0. OK, CLOSED. O(n). */
+/* Drops all pairs; the seed, the slots and the limits on their number stay. bucket_shrink frees the slots of a map, a set or a store.
+ * OK, CLOSED. O(n). */
 BUCKET_MUST_USE uint32_t bucket_clear(bucket_handle *handle);
 
 /* Makes room for `additional` more pairs. OK; NO_MEMORY, also if no array can have so many slots. CLOSED; OTHER_KIND: a cache, whose

@@ -478,8 +478,7 @@ template <class Shape, class Calls> class nodes : public holder {
         return erase_listed(doomed);
     }
 
-    /// Erases everything; the seed stays. A map or a set keeps its slots, which shrink_to_fit frees; a cache frees them. Allocates
-    /// nothing. O(n).
+    /// Erases everything; the seed and the slots stay. The shrink_to_fit of a map frees the slots. Allocates nothing. O(n).
     void clear() noexcept {
         node_type *all = list();
         size_ = 0;
@@ -759,7 +758,7 @@ template <class K> class words : public holder {
         return erase_listed(doomed);
     }
 
-    /// Erases everything; the seed stays. The slots stay too; shrink_to_fit frees them. Allocates nothing. O(n).
+    /// Erases everything; the seed and the slots stay. shrink_to_fit frees the slots. Allocates nothing. O(n).
     void clear() noexcept {
         static_cast<void>(bucket_clear(&handle_));
         size_ = 0;

@@ -1,30 +1,30 @@
 -- What a call does that takes handles of several kinds.
-use Rattle.std.specs.Prelude.{ℕ, ◌≡◌, [], Option, Some, None, nat_eq}
-use Rattle.bucket_table.specs.Rehash.State.{first_tickets}
-use Rattle.collections.specs.Slots.{cleared as map_cleared}
+use Rattle.std.specs.Prelude.{ℕ, ◌≡◌, Option, Some, None, nat_eq}
+use Rattle.bucket_slots.specs.declared.bucket.TheConstants.{CACHE}
+use Rattle.collections.specs.Maps.{map_of}
+use Rattle.collections.specs.Retaining.{LeavesBuckets}
+use Rattle.collections.specs.Slots.{cleared}
 use Rattle.bucket_calls.specs.Codes.{closed, ok, other_kind}
 use Rattle.bucket_calls.specs.Sizing.{MakesRoomBy, ShrinksBy}
 use Rattle.bucket_calls.specs.Views.{Caches, Maps, Text, text_eq}
 use Rattle.bucket_c.specs.declared.tables.Table.{Table}
 use Rattle.bucket_c.specs.declared.tables.Table.TheVariants.{Map, TextMap, Set, TextSet, Store, Cache, TextCache}
 
--- no pair and no slot is left of a cache; the hasher and the capacities stay
-abbrev pub cache_cleared : {K : Type 0} → Caches K → Caches K
-cache_cleared cache =
-    record { hasher = cache.hasher; arrays = record cache.arrays { current = []; linked = []; tickets = first_tickets 0 } }
+-- a cache loses its pairs; its hasher, its capacities and its slots stay
+pub record IsCleared {K : Type 0} (old new : Caches K) : Type 0 where
+  pub map : map_of new ≡ cleared (map_of old)
+  pub buckets : LeavesBuckets CACHE old.arrays new.arrays
 
-abbrev pub cleared : Table → Table
-cleared (Map map) = Map (map_cleared map)
-cleared (TextMap map) = TextMap (map_cleared map)
-cleared (Set set) = Set (map_cleared set)
-cleared (TextSet set) = TextSet (map_cleared set)
-cleared (Store map) = Store (map_cleared map)
-cleared (Cache cache) = Cache (cache_cleared cache)
-cleared (TextCache cache) = TextCache (cache_cleared cache)
-
+-- no pair is left, and the slots stay
 abbrev pub Clears : Option Table → ℕ → Option Table → Type 0
 Clears None code new = (code ≡ closed) × (new ≡ None)
-Clears (Some table) code new = (code ≡ ok) × (new ≡ Some (cleared table))
+Clears (Some (Map map)) code new = (code ≡ ok) × (new ≡ Some (Map (cleared map)))
+Clears (Some (TextMap map)) code new = (code ≡ ok) × (new ≡ Some (TextMap (cleared map)))
+Clears (Some (Set set)) code new = (code ≡ ok) × (new ≡ Some (Set (cleared set)))
+Clears (Some (TextSet set)) code new = (code ≡ ok) × (new ≡ Some (TextSet (cleared set)))
+Clears (Some (Store map)) code new = (code ≡ ok) × (new ≡ Some (Store (cleared map)))
+Clears (Some (Cache old)) code new = (code ≡ ok) × ((cache : Caches ℕ) × (new ≡ Some (Cache cache)) × IsCleared old cache)
+Clears (Some (TextCache old)) code new = (code ≡ ok) × ((cache : Caches Text) × (new ≡ Some (TextCache cache)) × IsCleared old cache)
 
 -- room for so many more pairs; a cache has the capacity that it was made with
 abbrev pub ReservesMore : ℕ → Option Table → ℕ → Option Table → Type 0

@@ -76,8 +76,7 @@ pub extern "C" fn bucket_capacity(handle: &mut Handle) -> usize
     }
 }
 
-/// Drops all pairs. The slots of a map, a set or a store stay if they are no more than the minimum
-/// and there are no old ones; otherwise, and in a cache, no slots are left.
+/// Drops all pairs. The seed, the capacities and the slots stay.
 ///
 /// Returns `OK`, `CLOSED`. O(slots). `HashMap::clear`.
 #[unsafe(no_mangle)]

@@ -15,7 +15,7 @@ use Rattle.bucket_table.specs.Resize.Remaking.{IsSettledAt}
 use Rattle.bucket_table.specs.Rehash.State.{first_tickets}
 use Rattle.bucket_table.specs.Resize.Resizing.{with_minimum}
 use Rattle.bucket_table.specs.Views.ArraysView.{ArraysView, TableView}
-use Rattle.collections.specs.Capacity.{AreTooMany, HasRoomFor, IsFitted, IsMinimumFor, IsSlotsFor, MakesRoom, ShrinksToFit, TakesSlots}
+use Rattle.collections.specs.Capacity.{AreTooMany, GainsRoom, HasRoomFor, IsFitted, IsMinimumFor, IsSlotsFor, MakesRoom, ShrinksToFit, TakesSlots}
 use Rattle.collections.specs.Changes.{Stays}
 use Rattle.collections.specs.Maps.{IsUnique, MapView, map_len, map_of}
 use Rattle.collections.proofs.Collecting.{stays_same}
@@ -46,6 +46,19 @@ too_many pairs many slots holds =
     let few = most slots pairs holds.enough in
     let within = holds.power.at_most in
     absurd (omega (arith, few, within, many))
+
+-- room for some pairs at most is room for more at most
+pub room_within : {K V H : Type 0} (eq : K → K → Bool) (old new : MapView K V H) (few most : ℕ) → few ≤ most → GainsRoom eq few old new
+    → GainsRoom eq most old new
+room_within eq old new few most order gains =
+    let within = gains.within in
+    record {
+      stays = gains.stays;
+      no_fewer = gains.no_fewer;
+      more = gains.more;
+      within = omega (arith, order, within);
+      made = gains.made;
+    }
 
 -- the least power of two for 16 slots for each 13 pairs
 pub slots_found : (pairs power : ℕ) → (IsTooFull (2 ^ 62) pairs → ⊥) → IsLeastPowerOfTwo (max ((pairs + 12) / 13 * 16) 64) power

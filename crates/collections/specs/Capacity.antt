@@ -1,5 +1,6 @@
 -- How many slots a map needs for some pairs.
-use Rattle.std.specs.Prelude.{ℕ, ◌≡◌, ◌+◌, ◌<◌, ◌≤◌, ◌^◌, Bool, Result, Ok, IsErr, OnOk, max, min}
+use Rattle.std.specs.Prelude.{ℕ, ◌≡◌, ◌+◌, ◌<◌, ◌≤◌, ◌^◌, ◌⊎◌, Bool, Result, Ok, IsErr, OnOk, max, min}
+use Rattle.std.specs.declared.alloc.AllocError.{AllocError}
 use Rattle.bucket_slots.specs.Sizing.{IsPowerIn, IsTooFull}
 use Rattle.collections.specs.Changes.{Stays}
 use Rattle.collections.specs.Maps.{IsEmpty, MapView, map_len}
@@ -30,11 +31,6 @@ module _ {K V H : Type 0} where
     pub alone : map.old_slots ≡ 0
     pub enough : IsTooFull map.slots (map_len map + more) → ⊥
 
-  -- the pairs stay, and there are no fewer slots
-  pub record GainsRoom (eq : K → K → Bool) (old new : MapView K V H) : Type 0 where
-    pub stays : Stays eq old new
-    pub no_fewer : old.slots ≤ new.slots
-
   -- there is no old array, and there are the fewest slots for some pairs, or as many as before
   pub record TakesSlots (pairs : ℕ) (old new : MapView K V H) : Type 0 where
     pub alone : new.old_slots ≡ 0
@@ -58,6 +54,14 @@ module _ {K V H : Type 0} where
     pub no_fewer : old.slots ≤ new.slots
     pub ready : HasRoomFor more old → (answer ≡ Ok tt) × (new ≡ old)
     pub too_many : AreTooMany (map_len old + more) → IsErr answer × (new ≡ old)
+
+  -- room is made for some additional pairs, at most this many, unless allocation fails; or nothing changes
+  pub record GainsRoom (eq : K → K → Bool) (most : ℕ) (old new : MapView K V H) : Type 0 where
+    pub stays : Stays eq old new
+    pub no_fewer : old.slots ≤ new.slots
+    pub more : ℕ
+    pub within : more ≤ most
+    pub made : (new ≡ old) ⊎ ((answer : Result (Unit {0}) AllocError) × MakesRoom eq more old answer new)
 
   -- the minimum is 0, and as few slots are left as the pairs need, unless allocation fails; if there are as few already, nothing else
   -- changes, and the call succeeds for a map without pairs

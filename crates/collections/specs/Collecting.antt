@@ -34,16 +34,17 @@ module _ {K V H : Type 0} (eq : K → K → Bool) where
   UpsertsEach hash_of old pairs new =
       FoldsTo (λ before pair after. Puts eq before pair.0 pair.1 after × GrowsSlots hash_of pair.0 before after) old pairs new
 
-  -- room is reserved, if it can be allocated, and all pairs of an iterator are upserted; or if allocation fails, those before a pair that
-  -- an upsert then returns, since allocation may fail in the map of that moment, and the iterator still has what follows it
-  abbrev pub PutsFrom : {S : Type 0} → (H → K → ℕ) → (S → Option (K × V) → S → Type 0) → S → MapView K V H
+  -- room is reserved for at most so many pairs, if it can be allocated, and all pairs of an iterator are upserted; or if allocation fails,
+  -- those before a pair that an upsert then returns, since allocation may fail in the map of that moment, and the iterator still has what
+  -- follows it
+  abbrev pub PutsFrom : {S : Type 0} → (H → K → ℕ) → (S → Option (K × V) → S → Type 0) → ℕ → S → MapView K V H
       → Result (Unit {0}) (AllocFailed (K × V)) → MapView K V H → S → Type 0
-  PutsFrom hash_of steps first old (Ok done) new last = (pairs : List (K × V)) × YieldsThen steps first pairs None last
+  PutsFrom hash_of steps most first old (Ok done) new last = (pairs : List (K × V)) × YieldsThen steps first pairs None last
       × PutsAll old pairs new
-      × ((roomy : MapView K V H) × GainsRoom eq old roomy × UpsertsEach hash_of roomy pairs new)
-  PutsFrom hash_of steps first old (Err back) new last = (pairs : List (K × V)) × YieldsThen steps first pairs (Some back.value) last
+      × ((roomy : MapView K V H) × GainsRoom eq most old roomy × UpsertsEach hash_of roomy pairs new)
+  PutsFrom hash_of steps most first old (Err back) new last = (pairs : List (K × V)) × YieldsThen steps first pairs (Some back.value) last
       × PutsAll old pairs new × (get eq new back.value.0 ≡ None)
-      × ((roomy : MapView K V H) × (between : MapView K V H) × GainsRoom eq old roomy × UpsertsEach hash_of roomy pairs between
+      × ((roomy : MapView K V H) × (between : MapView K V H) × GainsRoom eq most old roomy × UpsertsEach hash_of roomy pairs between
       × Stays eq between new × LacksRoom hash_of back.value.0 between)
 
 module _ {K H : Type 0} (eq : K → K → Bool) where
@@ -65,12 +66,13 @@ module _ {K H : Type 0} (eq : K → K → Bool) where
       old keys new
 
   -- the keys of an iterator are inserted, as pairs are inserted into a map
-  abbrev pub PutsKeysFrom : {S : Type 0} → (H → K → ℕ) → (S → Option K → S → Type 0) → S → MapView K (Unit {0}) H
+  abbrev pub PutsKeysFrom : {S : Type 0} → (H → K → ℕ) → (S → Option K → S → Type 0) → ℕ → S → MapView K (Unit {0}) H
       → Result (Unit {0}) (AllocFailed K) → MapView K (Unit {0}) H → S → Type 0
-  PutsKeysFrom hash_of steps first old (Ok done) new last = (keys : List K) × YieldsThen steps first keys None last × PutsKeys old keys new
-      × ((roomy : MapView K (Unit {0}) H) × GainsRoom eq old roomy × InsertsEach hash_of roomy keys new)
-  PutsKeysFrom hash_of steps first old (Err back) new last = (keys : List K) × YieldsThen steps first keys (Some back.value) last
+  PutsKeysFrom hash_of steps most first old (Ok done) new last = (keys : List K) × YieldsThen steps first keys None last
+      × PutsKeys old keys new
+      × ((roomy : MapView K (Unit {0}) H) × GainsRoom eq most old roomy × InsertsEach hash_of roomy keys new)
+  PutsKeysFrom hash_of steps most first old (Err back) new last = (keys : List K) × YieldsThen steps first keys (Some back.value) last
       × PutsKeys old keys new × (get eq new back.value ≡ None)
-      × ((roomy : MapView K (Unit {0}) H) × (between : MapView K (Unit {0}) H) × GainsRoom eq old roomy × InsertsEach hash_of roomy keys
-      between
+      × ((roomy : MapView K (Unit {0}) H) × (between : MapView K (Unit {0}) H) × GainsRoom eq most old roomy
+      × InsertsEach hash_of roomy keys between
       × Stays eq between new × LacksRoom hash_of back.value between)

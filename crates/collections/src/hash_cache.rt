@@ -4,20 +4,21 @@
 //! `map_of` it, and answers as std's `HashMap` does.
 //!
 //! Ports scc's `src/hash_cache.rs` to an owned cache: a call borrows where scc locks.
-ghost use Rattle.std.specs.Prelude.{◌≤◌, ◌<◌, ◌≡◌, ◌↔◌, ◌^◌, ◌*◌, ◌-◌, ◌++◌, [], Err, IfSome};
-ghost use Rattle.std.specs.Prelude.{IsTrue, is_some, length, max, min};
+ghost use Rattle.std.specs.Prelude.{◌≤◌, ◌<◌, ◌≡◌, ◌↔◌, ◌^◌, ◌*◌, ◌-◌, ◌++◌, Err, IfSome};
+ghost use Rattle.std.specs.Prelude.{IsTrue, false, is_some, length, max, min};
 ghost use Rattle.std.specs.Borrow.{sem};
 ghost use Rattle.std.specs.Option.{option_copied, option_map};
 ghost use Rattle.bucket_slots.specs.Sizing.{IsLeastPowerOfTwo};
 ghost use Rattle.bucket_slots.specs.Walking.{CallsEach};
 ghost use Rattle.bucket_table.specs.Map.Counting.{IsHeldBy};
-ghost use Rattle.bucket_table.specs.Rehash.State.{first_tickets};
 ghost use Rattle.bucket_table.specs.Views.ArraysView.{pairs_of};
 ghost use Rattle.bucket_slots.specs.declared.not_inserted.NotInserted.TheVariants.{Memory};
 ghost use Rattle.collections.specs.Changes.{Puts, Removes};
 ghost use Rattle.collections.specs.Crowding.{LacksBucket};
 ghost use Rattle.collections.specs.Maps.{contains_by, get_by, IsEmpty, map_len, map_of};
 ghost use Rattle.collections.specs.Maps.{pairs_in_bucket};
+ghost use Rattle.collections.specs.Retaining.{LeavesBuckets};
+ghost use Rattle.collections.specs.Slots.{cleared};
 ghost use Rattle.collections.specs.StoredKeys.{key_by};
 
 mod capacity;
@@ -343,16 +344,18 @@ impl<K: Eq + Drop, V: Drop, H: KeyHash<K>> HashCache<K, V, H> {
         taken
     }
 
-    /// Drops all pairs and all slots; the hasher and the capacities stay.
+    /// Drops all pairs. The hasher, the capacities and the slots stay; `drain` frees the slots.
     ///
     /// Never fails. O(slots). scc: `HashCache::clear_sync`.
     pub fn clear(&mut self)
-        ensures hasher { self.new.hasher ≡ self.old.hasher }
-        ensures arrays { self.new.arrays
-            ≡ record self.old.arrays { current = []; linked = []; tickets = first_tickets 0 } }
+        ensures map { map_of self.new ≡ cleared (map_of self.old) }
+        ensures buckets { LeavesBuckets CACHE self.old.arrays self.new.arrays }
     {
         self.room.fact_fits();
-        self.table.clear();
+        let mut keep_none = |_key: &K, _value: &mut V|
+            ensures { result ≡ false }
+        { false };
+        let _ = self.table.retain(&mut keep_none, &());
     }
 }
 

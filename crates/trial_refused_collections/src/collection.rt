@@ -93,15 +93,15 @@ impl Collection {
         (came, on_each!(self, any => any.len(), cache => cache.len()))
     }
 
-    /// Clears the collection. Returns whether it then has no pair, and no slot either unless it is
-    /// a map or a set, which may keep those of the minimum.
+    /// Clears the collection. Returns whether it then has no pair, and no slot either if it is an
+    /// index.
     pub(crate) fn clear(&mut self) -> bool {
         on_each!(self, any => any.clear(), cache => cache.clear());
         match self {
             Map(map) => map.is_empty(),
             Set(set) => set.is_empty(),
             Index(index) => index.capacity() == 0,
-            Cache(cache) => cache.capacity() == 0,
+            Cache(cache) => cache.is_empty(),
         }
     }
 

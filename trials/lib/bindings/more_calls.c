@@ -100,7 +100,7 @@ static int clear_of_each_kind(void) {
         size_t slots = bucket_capacity(&handle);
         CHECK(bucket_clear(&handle) == BUCKET_OK);
         CHECK(bucket_len(&handle) == 0);
-        CHECK(bucket_capacity(&handle) == (is_cache(kind) ? 0 : slots));
+        CHECK(bucket_capacity(&handle) == slots);
         CHECK(has(kind, &handle, 999) == BUCKET_ABSENT);
         CHECK(put_number(kind, &handle, 999) == BUCKET_OK);
         CHECK(bucket_len(&handle) == 1);

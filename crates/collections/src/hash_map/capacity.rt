@@ -5,8 +5,8 @@
 //! at once.
 ghost use Rattle.std.specs.Prelude.{◌≤◌, ◌≡◌, ◌^◌, [], IsErr, OnOk, min};
 ghost use Rattle.bucket_slots.specs.Sizing.{IsPowerIn};
-ghost use Rattle.collections.specs.Capacity.{AreTooMany, IsMinimumFor, MakesRoom, ShrinksTo};
-ghost use Rattle.collections.specs.Capacity.{ShrinksToFit, TakesSlots};
+ghost use Rattle.collections.specs.Capacity.{AreTooMany, GainsRoom, IsMinimumFor, MakesRoom};
+ghost use Rattle.collections.specs.Capacity.{ShrinksTo, ShrinksToFit, TakesSlots};
 ghost use Rattle.collections.specs.Changes.{Reserves, Stays};
 ghost use Rattle.collections.specs.Maps.{IsEmpty};
 
@@ -142,8 +142,7 @@ impl<K: Eq + Drop, V: Drop, H: KeyHash<K>> HashMap<K, V, H> {
     ///
     /// Never fails. O(slots), and O(1) if there is room already.
     pub(crate) fn reserve_for(&mut self, coming: usize)
-        ensures stays { Stays K.eq self.old self.new }
-        ensures no_fewer { self.old.slots ≤ self.new.slots }
+        ensures { GainsRoom K.eq coming self.old self.new }
     {
         if coming == 0 {
             self.fact_sound();

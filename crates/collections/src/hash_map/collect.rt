@@ -1,5 +1,5 @@
 //! The pairs of an iterator, inserted into a map or made a map. Allocation may fail.
-ghost use Rattle.std.specs.Iterator.{IsFinite};
+ghost use Rattle.std.specs.Iterator.{IsFinite, size};
 ghost use Rattle.collections.specs.Collecting.{PutsAll, PutsFrom, copied_pairs, empty_map};
 ghost use Rattle.std.specs.Prelude.{IfOk};
 
@@ -30,8 +30,8 @@ impl<K: Eq + Drop, V: Drop, H: KeyHash<K>> HashMap<K, V, H> {
     ) -> Result<(), AllocFailed<(K, V)>>
         requires can { I.can_next pairs.old }
         requires finite { IsFinite (I.remaining pairs.old) }
-        ensures { PutsFrom K.eq H.hash_of I.next_gives pairs.old self.old result self.new
-            pairs.new }
+        ensures { PutsFrom K.eq H.hash_of I.next_gives (size (I.remaining pairs.old)) pairs.old
+            self.old result self.new pairs.new }
     {
         self.reserve_for(pairs.size_hint().0);
         while let Some(pair) = pairs.next() {

@@ -1,7 +1,8 @@
 //! How many slots a set has, as in a map: reserving room, and freeing slots.
-ghost use Rattle.std.specs.Prelude.{◌≡◌, ◌≤◌, ◌^◌, [], min};
-ghost use Rattle.collections.specs.Capacity.{IsMinimumFor, MakesRoom, ShrinksTo, ShrinksToFit};
-ghost use Rattle.collections.specs.Changes.{Reserves, Stays};
+ghost use Rattle.std.specs.Prelude.{◌≡◌, ◌^◌, [], min};
+ghost use Rattle.collections.specs.Capacity.{GainsRoom, IsMinimumFor, MakesRoom, ShrinksTo};
+ghost use Rattle.collections.specs.Capacity.{ShrinksToFit};
+ghost use Rattle.collections.specs.Changes.{Reserves};
 ghost use Rattle.collections.specs.Maps.{IsEmpty};
 
 use crate::default_hash::DefaultHash;
@@ -95,8 +96,7 @@ impl<K: Eq + Drop, H: KeyHash<K>> HashSet<K, H> {
 
     /// Makes room, if it can be allocated, for keys of which at least `coming` come, as in a map.
     pub(crate) fn reserve_for(&mut self, coming: usize)
-        ensures stays { Stays K.eq self.old self.new }
-        ensures no_fewer { self.old.slots ≤ self.new.slots }
+        ensures { GainsRoom K.eq coming self.old self.new }
     {
         self.map.reserve_for(coming);
     }

@@ -1,6 +1,6 @@
 //! The keys of an iterator, inserted into a set or made a set. Allocation may fail.
 ghost use Rattle.std.specs.Prelude.{map, IfOk};
-ghost use Rattle.std.specs.Iterator.{IsFinite};
+ghost use Rattle.std.specs.Iterator.{IsFinite, size};
 ghost use Rattle.collections.specs.Collecting.{PutsKeys, PutsKeysFrom, empty_map};
 
 use crate::default_hash::DefaultHash;
@@ -27,8 +27,8 @@ impl<K: Eq + Drop, H: KeyHash<K>> HashSet<K, H> {
     pub fn try_extend<I: Iterator<Item = K>>(&mut self, keys: &mut I) -> Result<(), AllocFailed<K>>
         requires can { I.can_next keys.old }
         requires finite { IsFinite (I.remaining keys.old) }
-        ensures { PutsKeysFrom K.eq H.hash_of I.next_gives keys.old self.old result self.new
-            keys.new }
+        ensures { PutsKeysFrom K.eq H.hash_of I.next_gives (size (I.remaining keys.old)) keys.old
+            self.old result self.new keys.new }
     {
         self.reserve_for(keys.size_hint().0);
         while let Some(key) = keys.next() {

@@ -40,7 +40,7 @@ pub(super) const STORIES: &[Story] = steps! {
     Story { name: "a cache keeps its size over a clear",
         hasher: ScriptHash::Spread, made: Within(0, 256), steps: steps! {
             Resize(200), Expect(Slots(256)), Expect(Len(0)), PutRange(0..32), Expect(Slots(256)),
-            Clear, Expect(Slots(0)), PutRange(0..32), Expect(Slots(256)), Resize(0),
+            Clear, Expect(Slots(256)), PutRange(0..32), Expect(Slots(256)), Resize(0),
             Expect(Slots(64)), Expect(Len(32)) } },
     Story { name: "of the calls that lend a value, only get_mut touches", hasher: ScriptHash::Zero,
         made: Within(0, 256), steps: steps! {

@@ -47,7 +47,7 @@ const STORIES: &[Story] = steps! {
     Story { name: "a cleared cache is filled again", hasher: ScriptHash::Zero,
         made: Within(100, 0), steps: steps! {
             PutRange(0..32), Expect(Slots(128)), Get(0, Some(0)), Clear, Expect(Len(0)),
-            Expect(Slots(0)), Expect(Value(0, None)), Get(1, None), Clear, PutRange(0..32),
+            Expect(Slots(128)), Expect(Value(0, None)), Get(1, None), Clear, PutRange(0..32),
             Expect(Slots(128)), Expect(Len(32)), Put(32, 1, Some((0, 0))) } },
     Story { name: "a cache of 64 slots doesn't grow", hasher: ScriptHash::Spread,
         made: Within(0, 0), steps: steps! {

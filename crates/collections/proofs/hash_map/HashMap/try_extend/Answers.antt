@@ -3,6 +3,7 @@ use Rattle.std.proofs.slice.Lists.{chained_more}
 use Rattle.collections.specs.Loans.{Puts}
 use Rattle.collections.specs.Slots.{GrowsSlots}
 use Rattle.std.proofs.iter.Next as it
+use Rattle.collections.proofs.Capacity.{room_within}
 use Rattle.collections.proofs.Collecting.{none_put, one_more_put, put_then_stays, stays_then_put, upsert_puts}
 use Rattle.collections.proofs.hash_map.HashMap.try_extend.Goals as goal
 
@@ -43,9 +44,24 @@ returns-in-Err g c =
       (
         c.reserve_for.new.self,
         c.loop-pair.self,
-        record { stays = c.reserve_for.ensures.stays; no_fewer = c.reserve_for.ensures.no_fewer },
+        room_within g.K.PartialEq.eq c.args.self.now c.reserve_for.new.self _ _ (c.size_hint.ensures.lower c.requires.finite)
+            c.reserve_for.ensures,
         inv.holds.1,
         stays,
         c.in-Err.ensures.memory,
+      ),
+    )
+
+pub returns : goal.returns
+returns g c =
+    let inv = c.loop-pair.invariant in (
+      inv.seen,
+      it.Gave-then inv c.in_default.is c.next.ensures.steps,
+      inv.holds.0,
+      (
+        c.reserve_for.new.self,
+        room_within g.K.PartialEq.eq c.args.self.now c.reserve_for.new.self _ _ (c.size_hint.ensures.lower c.requires.finite)
+            c.reserve_for.ensures,
+        inv.holds.1,
       ),
     )
