@@ -32,7 +32,7 @@ impl<K, V> NotInserted<K, V> {
 impl<K, V> fmt::Display for NotInserted<K, V> {
     fn fmt<W: fmt::Write>(&self, f: &mut fmt::Formatter<W>) -> fmt::Result {
         match self {
-            NotInserted::Present(..) => write!(f, "an equal key is there"),
+            NotInserted::Present(..) => write!(f, "the key is already present"),
             NotInserted::Memory(..) => write!(f, "out of memory"),
         }
     }

@@ -183,6 +183,7 @@ impl<K, V, L: LruList, const TYPE: u8> Buckets<K, V, L, TYPE> {
         self.fact_room();
         let (part, offset) = place_of(index, self.part_bits, self.part_mask);
         let held = &mut self.parts[part];
+        prove!(offset < held.len());
         held.bucket_mut(offset)
     }
 
@@ -321,6 +322,7 @@ impl<K: Drop, V: Drop, L: LruList, const TYPE: u8> Buckets<K, V, L, TYPE> {
         }
         let (part, offset) = place_of(start, self.part_bits, self.part_mask);
         let held = &mut self.parts[part];
+        prove!(offset < held.len());
         held.spread(source, offset, len, start, shift, hash_of);
     }
 }

@@ -72,6 +72,14 @@ impl<K, V, L: LruList, const TYPE: u8> Part<K, V, L, TYPE> {
         })
     }
 
+    /// Returns the number of buckets.
+    #[inline(always)]
+    pub(crate) fn len(&self) -> usize
+        ensures { result ≡ length self.now }
+    {
+        self.made.capacity()
+    }
+
     /// Returns the bucket at an offset, or a spare one if it isn't initialized.
     #[inline(always)]
     pub(crate) fn bucket<'a>(

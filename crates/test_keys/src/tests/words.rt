@@ -112,7 +112,7 @@ fn refusals_are_errors_and_give_the_pair(rt: HostRuntime) -> Result<(), Fail> {
         &rt,
         rt.alloc(),
         NotInserted::Present("Ann", 1),
-        "an equal key is there",
+        "the key is already present",
     )?;
     check_refusal(
         &rt,

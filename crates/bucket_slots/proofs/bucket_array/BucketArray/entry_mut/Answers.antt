@@ -1,10 +1,7 @@
-use Rattle.bucket_slots.proofs.Words.{arith, bucket_with_value, is_live, refl, rules, slot_in, true, ◌≡◌}
+use Rattle.bucket_slots.proofs.Words.{bucket_with_value, is_live, refl, slot_in, true, ◌≡◌}
 use Rattle.bucket_slots.specs.ArrayView.{bucket_at}
 use Rattle.bucket_slots.proofs.Digests.{IsDigest-valued, kept_at}
 use Rattle.bucket_slots.proofs.bucket_array.BucketArray.entry_mut.Goals as goal
-
-pub entry_mut-requires : goal.entry_mut-requires
-entry_mut-requires g c = (search rules, (omega arith, rw (c.get_mut.ensures.bucket, c.self.view_is) c.requires.live_slot))
 
 pub invariant_of-self-lent : goal.invariant_of-self-lent
 invariant_of-self-lent g c w =

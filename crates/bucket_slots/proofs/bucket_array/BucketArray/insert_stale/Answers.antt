@@ -1,4 +1,4 @@
-use Rattle.bucket_slots.proofs.Words.{ap, set, set-get_or, ◌∙◌}
+use Rattle.bucket_slots.proofs.Words.{ap, refl, set, set-get_or, ◌∙◌}
 use Rattle.bucket_slots.proofs.Digests.{null_at}
 use Rattle.bucket_slots.proofs.bucket_array.BucketArray.insert_stale.Goals as goal
 
@@ -28,3 +28,8 @@ pub returns-clause-unchanged : goal.returns-clause-unchanged
 returns-clause-unchanged g c =
     c.refresh.ensures ∙ ap (set c.args.self.now c.args.index) c.in-Err.ensures.refused.unchanged
     ∙ rw c.bucket_mut-bucket.ensures.bucket (set-get_or c.args.self.now c.args.index _)
+
+pub returns-then-is_valid-clause-answer : goal.returns-then-is_valid-clause-answer
+returns-then-is_valid-clause-answer g c =
+    let found = c.get_entry_ptr.ensures.found (c.is_valid.ensures.0 c.if-is_valid.true) in
+    (refl, refl, (c.get_entry_ptr.result, rw c.bucket_mut-bucket.ensures.bucket at found))

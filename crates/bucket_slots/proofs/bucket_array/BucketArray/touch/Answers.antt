@@ -1,14 +1,8 @@
-use Rattle.bucket_slots.proofs.Words.{arith, refl}
+use Rattle.bucket_slots.proofs.Words.{refl}
 use Rattle.bucket_slots.specs.ArrayView.{bucket_at}
 use Rattle.bucket_slots.specs.Evicting.{slots_touched}
 use Rattle.bucket_slots.proofs.Digests.{IsDigest-touched, kept_at}
 use Rattle.bucket_slots.proofs.bucket_array.BucketArray.touch.Goals as goal
-
-pub update_lru_tail-requires : goal.update_lru_tail-requires
-update_lru_tail-requires g c = (
-  c.fact_room.ensures.fits,
-  (omega arith, (c.requires.cache, rw (c.get_mut.ensures.bucket, c.self.view_is) c.requires.live_slot)),
-)
 
 pub invariant_of-self : goal.invariant_of-self
 invariant_of-self g c =

@@ -1,20 +1,8 @@
-use Rattle.bucket_slots.proofs.Words.{arith, bucket_with_value, is_live, refl, rules, slot_in, true, ◌≡◌}
+use Rattle.bucket_slots.proofs.Words.{bucket_with_value, is_live, refl, slot_in, true, ◌≡◌}
 use Rattle.bucket_slots.specs.ArrayView.{bucket_at}
 use Rattle.bucket_slots.specs.Evicting.{slots_touched}
 use Rattle.bucket_slots.proofs.Digests.{IsDigest-touched, IsDigest-valued, kept_at}
 use Rattle.bucket_slots.proofs.bucket_array.BucketArray.touch_entry_mut.Goals as goal
-
-pub update_lru_tail-requires : goal.update_lru_tail-requires
-update_lru_tail-requires g c = (
-  c.fact_room.ensures.fits,
-  (omega arith, (c.requires.cache, rw (c.get_mut-bucket.ensures.bucket, c.self.view_is) c.requires.live_slot)),
-)
-
-pub entry_mut-requires-2 : goal.entry_mut-requires-2
-entry_mut-requires-2 g c = (
-  search rules,
-  (omega arith, rw (c.update_lru_tail.ensures, c.get_mut-bucket.ensures.bucket, c.self.view_is) c.requires.live_slot),
-)
 
 pub invariant_of-self-lent : goal.invariant_of-self-lent
 invariant_of-self-lent g c w =

@@ -1,4 +1,4 @@
-use Rattle.bucket_slots.proofs.Words.{ap, empty_bucket, get_or, get_or_read, inl, length, refl, set, sym, ◌<◌, ◌∙◌}
+use Rattle.bucket_slots.proofs.Words.{ap, arith, empty_bucket, get_or, get_or_read, inl, length, refl, set, sym, ◌<◌, ◌∙◌}
 use Rattle.bucket_slots.proofs.ArrayParts.{few_parts, few_view, few_with, len_of}
 use Rattle.bucket_slots.proofs.bucket_array.buckets.Buckets.get_mut.Goals as goal
 
@@ -21,3 +21,9 @@ returns-then-is_short g c =
             ∙ ap (λ buckets. get_or buckets c.args.index empty_bucket) held;
       },
     )
+
+pub index_mut-requires : goal.index_mut-requires
+index_mut-requires g c =
+    let short = c.is_short.ensures.0 c.if-is_short.true in
+    let few = few_parts c.self.invariant.0 (rw (len_of c.self.invariant.0 ∙ ap length c.self.view_is) short) in
+    omega (arith, c.self.inside.beside.ok.0, ap length (sym (few_view few) ∙ c.self.view_is), c.requires)

@@ -1,4 +1,4 @@
-use Rattle.bucket_slots.proofs.Words.{[], Bor, arith, get_or_read, length, refl, rules, ℕ, ◌<◌}
+use Rattle.bucket_slots.proofs.Words.{[], Bor, arith, get_or_read, length, refl, ℕ, ◌<◌}
 use Rattle.bucket_slots.specs.Layout.ArrayParts.{buckets_of}
 use Rattle.bucket_slots.specs.Spreading.{IsShifted}
 use Rattle.bucket_slots.proofs.ArrayParts.{long_place}
@@ -12,16 +12,15 @@ index_mut-held-requires g c =
     let place = long_place _ _ _ _ c.self.invariant.0 many _ _ _ _ c.self.view_is c.requires.within at.part at.offset in
     omega (arith, c.self.inside.parts.ok.0, place.within)
 
-pub spread-requires : goal.spread-requires
-spread-requires g c =
+pub prove-unreachable-requires : goal.prove-unreachable-requires
+prove-unreachable-requires g c =
     let at = c.place_of-part.ensures in
     let many = c.if-self-le-SHORT_LEN.false in
     let place = long_place _ _ _ _ c.self.invariant.0 many _ _ _ _ c.self.view_is c.requires.within at.part at.offset in
     let here = get_or_read c.self.inside.parts.items c.place_of-part.result.0 c.index_mut-held.result.now place.within
-    c.index_mut-held.ensures.value [] in (
-      search rules,
-      (c.fact_room.ensures, (c.fact_room.ensures, (c.requires.callable, (rw here place.inside, (c.requires.shift, c.requires.bounded))))),
-    )
+    c.index_mut-held.ensures.value [] in
+    let inside : c.place_of-part.result.1 < length c.index_mut-held.result.now = rw here place.inside in
+    omega (arith, c.len.ensures)
 
 pub invariant_of-self : goal.invariant_of-self
 invariant_of-self g c =

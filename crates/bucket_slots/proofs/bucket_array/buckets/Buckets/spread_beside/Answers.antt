@@ -73,3 +73,24 @@ returns-clause-front g c = λ i before.
     let was = sym over.was ∙ sym (few_view few) ∙ c.self.view_is in
     let is = few_view (few_spread _ _ _ _ _ few over.long) ∙ over.is in
     rw (← was, is) (front_same over.front _ _ i (omega (arith, before, over.front_len)))
+
+pub overflow_sub-len : goal.overflow_sub-len
+overflow_sub-len g c =
+    let few = few_parts c.self.invariant.0 (omega (arith, len_of c.self.invariant.0, ap length c.self.view_is, c.requires.short)) in
+    let held = c.self.inside.beside in
+    omega (arith, held.ok.0, few.len_is, len_of c.self.invariant.0, ap length c.self.view_is, c.requires.within, c.len.ensures)
+
+pub slice_mut-requires-clause-in_bounds : goal.slice_mut-requires-clause-in_bounds
+slice_mut-requires-clause-in_bounds g c =
+    let few = few_parts c.self.invariant.0 (omega (arith, len_of c.self.invariant.0, ap length c.self.view_is, c.requires.short)) in
+    let held = c.self.inside.beside in
+    omega (
+      arith,
+      held.ok.0,
+      few.len_is,
+      len_of c.self.invariant.0,
+      ap length c.self.view_is,
+      c.requires.within,
+      c.len.ensures,
+      c.if-len-start.false,
+    )

@@ -1,4 +1,4 @@
-use Rattle.bucket_slots.proofs.Words.{ap, arith, empty_bucket, get_or, get_or_read, length, refl, rules, set, sym, vec_capacity, ◌<◌, ◌∙◌}
+use Rattle.bucket_slots.proofs.Words.{ap, arith, empty_bucket, get_or, get_or_read, length, refl, set, sym, vec_capacity, ◌<◌, ◌∙◌}
 use Rattle.bucket_slots.proofs.ArrayParts.{get_or-made, length-part, set-part}
 use Rattle.bucket_slots.proofs.bucket_array.part.Part.bucket_mut.Goals as goal
 
@@ -22,12 +22,6 @@ invariant_of-self-lent g c = λ _. tt
 
 pub index_mut-requires : goal.index_mut-requires
 index_mut-requires g c = omega (arith, c.make_to.ensures.made)
-
-pub make_to-requires : goal.make_to-requires
-make_to-requires g c =
-    let made = c.self.inside.made in
-    let long = length-part made.items c.args.self.now _ _ c.self.view_is in
-    (search rules, (c.requires.fits, omega (arith, long, c.requires.within, made.ok.0, made.ok.1)))
 
 pub overflow_add-offset : goal.overflow_add-offset
 overflow_add-offset g c =
