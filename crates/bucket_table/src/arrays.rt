@@ -39,7 +39,7 @@ use std::marker::Model;
 /// Why no bucket is locked.
 #[derive(Debug, Drop)]
 pub enum Missing {
-    /// There is nothing to lock: no array, or no live pair ahead.
+    /// There is no bucket to lock: no array, or no live pair ahead.
     Nothing,
     /// Allocation failure.
     Memory,
@@ -48,7 +48,7 @@ pub enum Missing {
 impl fmt::Display for Missing {
     fn fmt<W: fmt::Write>(&self, f: &mut fmt::Formatter<W>) -> fmt::Result {
         match self {
-            Missing::Nothing => write!(f, "nothing to lock"),
+            Missing::Nothing => write!(f, "no bucket to lock"),
             Missing::Memory => write!(f, "out of memory"),
         }
     }

@@ -78,7 +78,7 @@ fn play(rt: &impl Abort, words: &mut Words, row: usize, step: &Step) {
 
 // Why no bucket is locked, as a value and as a text.
 const MISSING: [(Missing, &str, &str); 2] = [
-    (Missing::Nothing, "Nothing", "nothing to lock"),
+    (Missing::Nothing, "Nothing", "no bucket to lock"),
     (Missing::Memory, "Memory", "out of memory"),
 ];
 

@@ -158,9 +158,13 @@ module _ {K V H : Type 0} (kind hash : ℕ) (hasher : H) (a new : ArraysView K V
       }
 
   pub roomy_finds : (found : Option ℕ) → IfSome found (λ index. IsRoomy a hash index)
-      → IfSome found (λ index. (rule : ResizeRule) → FindsBucket rule kind hash (over a) Current index (over a))
-  roomy_finds None none = tt
-  roomy_finds (Some index) roomy = roomy_found index roomy
+      → IfSome found (λ index. IsLocked a Current index)
+      × (IfSome found (λ index. IsHome (length a.current) hash index)
+      × IfSome found (λ index. (rule : ResizeRule) → FindsBucket rule kind hash (over a) Current index (over a)))
+  roomy_finds None none = (tt, (tt, tt))
+  roomy_finds (Some index) roomy =
+      let finds = roomy_found index roomy in
+      ((finds Sampled).locked, ((finds Sampled).home, finds))
 
 module _ {K V H : Type 0} where
   -- an overfull home is found, now in the old array

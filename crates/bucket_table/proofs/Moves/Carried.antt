@@ -1,9 +1,9 @@
 -- The carried LRU order: what the targets list after the pairs of a bucket have landed and their slots were listed.
-use Rattle.bucket_table.proofs.Words.{AreHome, Bool, BucketView, CACHE, CarriesRecency, HasLanded, IsBucketOf, KeepsEntries, KeepsPlaces}
+use Rattle.bucket_table.proofs.Words.{All-nil, AreHome, Bool, BucketView, CACHE, CarriesRecency, HasLanded, IsBucketOf, KeepsEntries, KeepsPlaces}
 use Rattle.bucket_table.proofs.Words.{List, ListsArrivals, MovesInto, None, Option, Slot, Some, ℕ, [], ap, append-nil, arith, bucket_at}
 use Rattle.bucket_table.proofs.Words.{cases_Bool, cases_eq, entries_in, eqb-true, false, false≢true, filter_map-append, free, homed_len}
 use Rattle.bucket_table.proofs.Words.{if◌then◌else◌, inl, inr, is_listed, landing_of, length, listed_pairs, live, live_pair, live_pairs}
-use Rattle.bucket_table.proofs.Words.{map, map-append, marked, marks_in, nil_from_length, pairs_in, refl, replicate, slot_at, slot_in}
+use Rattle.bucket_table.proofs.Words.{map, map-append, marked, marks_in, nil_from_length, null_place, pairs_in, refl, replicate, slot_at, slot_in}
 use Rattle.bucket_table.proofs.Words.{subst, sym, take, true, ◌++◌, ◌-◌, ◌<◌, ◌==◌, ◌∙◌, ◌∷◌, ◌≡◌}
 use Rattle.bucket_table.specs.Layout.Moving.{CanMoveInto}
 use Rattle.bucket_table.specs.Rehash.Carrying.{WentFirst, WentInOrder}
@@ -13,9 +13,11 @@ use Rattle.std.specs.List.{filter}
 use Rattle.bucket_slots.proofs.PlacedSlots.{listed_below}
 use Rattle.bucket_slots.specs.Evicting.{slots_unlisted}
 use Rattle.bucket_slots.specs.Recency.{order_and_zeros}
-use Rattle.bucket_table.specs.Layout.Landings.{HaveLanded, arrivals, carried_to, is_own_of, slot_there}
+use Rattle.bucket_table.specs.Layout.Landings.{HasBegun, HasLandedFull, HaveLanded, IsTakenOrder, MoveInOrder, arrivals, carried_to}
+use Rattle.bucket_table.specs.Layout.Landings.{is_own_of, slot_there}
 use Rattle.bucket_table.proofs.Moves.Arriving.{with_more}
 use Rattle.bucket_table.proofs.Moves.Landings.{none_left}
+use Rattle.bucket_table.proofs.Moves.MovingPairs.{IsMoving, MovesInto-refl}
 use Rattle.bucket_table.proofs.Moves.Staying.{contains_at, place_listed, stay_both, stay_same}
 use Rattle.bucket_table.proofs.Views.MarksKept.{marks_alike}
 use Rattle.bucket_table.proofs.Moves.Relocating.{entries_alike}
@@ -235,29 +237,65 @@ module _ {K V : Type 0} where
     pub recency : CarriesRecency s c e
 
   -- the same as the calls state it: t is s with its list taken, and the order is the first `len` of the bytes
-  pub carried_over : (kind : ℕ) (hash : K → ℕ) (s t left : BucketView K V) (c d e : List (BucketView K V))
-      (landings : List (Option Landing))
-      (bytes : List ℕ) (len : ℕ) → IsBucketOf kind s → length landings ≡ 32 → t ≡ slots_unlisted s → bytes ≡ order_and_zeros s.listed
-      → len ≡ length s.listed → HaveLanded hash t c d landings → WentInOrder d (pairs_in t) → MovesInto hash t c left d → AreHome hash d
-      → ListsArrivals landings (take len bytes) d e → IsCarried hash s left c e
-  carried_over kind hash s t left c d e landings bytes len laws long t_is bytes_is len_is landed in_order moved homes listed =
-      let landed_here = rw t_is at landed in
-      let order_here : WentInOrder d (pairs_in s) = rw t_is at in_order in
+  pub carried_over : (kind : ℕ) (hash : K → ℕ) {s t left : BucketView K V} {c c1 d e : List (BucketView K V)}
+      {landings : List (Option Landing)} {bytes : List ℕ} {len : ℕ} → IsBucketOf kind s → length landings ≡ 32 → HasBegun hash s c t c1
+      → bytes ≡ order_and_zeros s.listed → len ≡ length s.listed → 0 < length s.listed → HaveLanded hash t c1 d landings
+      → WentInOrder d (pairs_in s) → MovesInto hash t c1 left d → AreHome hash d → ListsArrivals landings (take len bytes) d e
+      → IsCarried hash s left c e
+  carried_over kind hash {s} {left} {bytes} {len} laws long begun bytes_is len_is some landed in_order moved homes listed =
+      let only = begun.only_emptied some in
+      let landed_here = rw (only.0, only.1) at landed in
       let listed_here = rw (order_back s.listed bytes len bytes_is len_is) at listed in
       record {
-        moved = moves_still laws long landed_here order_here listed_here left (rw t_is at moved);
-        homes = homes_still laws long landed_here order_here listed_here homes;
-        recency = carries_recency laws long landed_here order_here listed_here;
+        moved = moves_still laws long landed_here in_order listed_here left (rw (only.0, only.1) at moved);
+        homes = homes_still laws long landed_here in_order listed_here homes;
+        recency = carries_recency laws long landed_here in_order listed_here;
       }
 
+  -- the list of a bucket was emptied
+  order_unlisted : (s t : BucketView K V) (c : List (BucketView K V)) → t ≡ slots_unlisted s → MoveInOrder s t c
+  order_unlisted s t c t_is = rw t_is (record { gone = []; rest = refl; landed = All-nil (HasLandedFull c); order = tt })
+
+  -- and no pair has moved
+  pub begun_only : (hash : K → ℕ) {s t : BucketView K V} (c : List (BucketView K V)) → t ≡ slots_unlisted s → HasBegun hash s c t c
+  begun_only hash {s} {t} c t_is = record {
+    moved = rw t_is (moves_unlisted hash s (slots_unlisted s) c c (MovesInto-refl hash (slots_unlisted s) c));
+    in_order = order_unlisted s t c t_is;
+    stay = stay_same c;
+    same_lists = λ j. refl;
+    only_emptied = λ some. (t_is, refl);
+  }
+
+  -- and its first pairs have moved
+  pub begun_spread : (hash : K → ℕ) {start end : ℕ} {s t left : BucketView K V} {c d : List (BucketView K V)} → t ≡ slots_unlisted s
+      → length s.listed ≡ 0 → IsMoving hash start end t c left d [] null_place → HasBegun hash s c left d
+  begun_spread hash {s} {t} {left} {c} {d} t_is none moving = record {
+    moved = moves_unlisted hash s left c d (subst (λ (x : BucketView K V). MovesInto hash x c left d) t_is moving.moves);
+    in_order = moving.order s (order_unlisted s t c t_is);
+    stay = moving.landing.stay;
+    same_lists = moving.landing.same_lists;
+    only_emptied = λ some. absurd (omega (arith, some, none));
+  }
+
 -- an order that isn't empty is that of a cache, whose list is kept
-pub is_cache : {K V : Type 0} (kind : ℕ) (s : BucketView K V) (order : List ℕ) → IsBucketOf kind s → order ≡ s.listed → 0 < length order
+is_cache : {K V : Type 0} (kind : ℕ) (s : BucketView K V) (order : List ℕ) → IsBucketOf kind s → order ≡ s.listed → 0 < length order
     → kind ≡ CACHE
 is_cache kind s order laws is some = elim (cases_eq kind CACHE) [
   | inl same ↦ same
   | inr other ↦ absurd (omega (arith, some, ap length is, ap length (laws.unlisted other)))
 ]
 
-pub is_kept : (keeps : Bool) (listed order : List ℕ) → (keeps ≡ false → listed ≡ []) → order ≡ listed → 0 < length order → keeps ≡ true
+is_kept : (keeps : Bool) (listed order : List ℕ) → (keeps ≡ false → listed ≡ []) → order ≡ listed → 0 < length order → keeps ≡ true
 is_kept true listed order none is some = refl
 is_kept false listed order none is some = absurd (omega (arith, some, ap length is, ap length (none refl)))
+
+-- what holds of the order that was taken from a bucket
+pub taken_order : {K V : Type 0} {kind : ℕ} {keeps : Bool} {s : BucketView K V} {bytes : List ℕ} {len : ℕ} → IsBucketOf kind s
+    → bytes ≡ order_and_zeros s.listed → len ≡ length s.listed → (keeps ≡ false → s.listed ≡ []) → IsTakenOrder kind keeps (take len bytes)
+taken_order {kind} {keeps} {s} {bytes} {len} laws bytes_is len_is none =
+    let order = order_back s.listed bytes len bytes_is len_is in
+    record {
+      once = rw order laws.listed_once;
+      cache = is_cache kind s (take len bytes) laws order;
+      keeps_slots = is_kept keeps s.listed (take len bytes) none order;
+    }

@@ -186,6 +186,19 @@ module _ {K V : Type 0} (hash : K → ℕ) where
   same_pair : (x : Slot K V) (p q : K × V) → live_pair x ≡ Some p → live_pair x ≡ Some q → q ≡ p
   same_pair x p q one two = cc
 
+  -- the home of the pair at a place, which a number shows
+  pub record IsHomeThere (s : BucketView K V) (c : List (BucketView K V)) (at : Place) (home number : ℕ) : Type 0 where
+    pub way : (pair : K × V) → live_pair (slot_in s at) ≡ Some pair → IsWay hash (length c) pair home number
+    pub within : home < length c
+    pub alive : (b : BucketView K V) → b ≡ bucket_at c home → b.killed ≡ false
+
+  pub home_there : {start end : ℕ} {s : BucketView K V} {c : List (BucketView K V)} {at : Place} {home number : ℕ}
+      → CanMoveInto hash start end s c → (p : K × V) → live_pair (slot_in s at) ≡ Some p
+      → ((pair : K × V) → live_pair (slot_in s at) ≡ Some pair → IsWay hash (length c) pair home number) → IsHomeThere s c at home number
+  home_there {home} ready p here way =
+      let within = (way p here).home.within in
+      record { way = way; within = within; alive = λ b b_is. rw b_is (ready.alive home within) }
+
   -- the home of a pair that is in the bucket has a free slot
   pub home_has_room : {start end : ℕ} {s : BucketView K V} {c : List (BucketView K V)} (at : Place) (p : K × V) {h j : ℕ}
       → CanMoveInto hash start end s c → live_pair (slot_in s at) ≡ Some p → IsWay hash (length c) p j h

@@ -1,11 +1,11 @@
 -- An old bucket whose pairs have moved to their homes, and the law of two arrays after that.
 use Rattle.bucket_table.proofs.Words.{All, All-map, All-nil, AreHome, AreTwoArrays, BucketView, IsBucketOf, IsEntryHome, IsInRange}
 use Rattle.bucket_table.proofs.Words.{IsLength, IsPermutation, IsPermutation-append_left, IsPermutation-append_right, IsPermutation-refl}
-use Rattle.bucket_table.proofs.Words.{IsPermutation-trans, IsVacant, KeepsEntries, List, Meets, MovesInto, ℕ, [], ap, append-nil, arith}
+use Rattle.bucket_table.proofs.Words.{IsPermutation-trans, IsVacant, KeepsEntries, List, Meets, MovesInto, OnOk, Result, ℕ, [], ap, append-nil, arith}
 use Rattle.bucket_table.proofs.Words.{bucket_at, cases_eq, empty_bucket, entries_among, entries_in, false, get_or, home_of, inl, inr}
 use Rattle.bucket_table.proofs.Words.{interval_width, length, map-entries_in, marks_among, no_new-refl, pairs_in, refl, rotated, scales}
 use Rattle.bucket_table.proofs.Words.{set, set-get_or, subst, sym, true, true≢false, ◌++◌, ◌/◌, ◌<◌, ◌↔◌, ◌∙◌, ◌≡◌, ◌≤◌}
-use Rattle.bucket_table.specs.Layout.Moving.{CanMoveInto, HasOwnByte}
+use Rattle.bucket_table.specs.Layout.Moving.{AreTargets, CanMoveInto, HasOwnByte, IsBound}
 use Rattle.std.proofs.Common.{append_assoc}
 use Rattle.bucket_slots.proofs.ArrayNumbers.{one_source}
 use Rattle.bucket_slots.proofs.MarksAfter.{marks_in-slots_killed}
@@ -17,7 +17,7 @@ use Rattle.bucket_table.proofs.Moves.HomesByDivision.{in_interval, some_width}
 use Rattle.bucket_table.proofs.Moves.MarksLeft.{marks_in-killed}
 use Rattle.bucket_table.proofs.Views.Killed.{no_entries}
 use Rattle.bucket_table.proofs.Views.MarksKept.{all_alike, marks_among-kept, marks_moved}
-use Rattle.bucket_table.proofs.Moves.RoomMade.{KeepsEntries-refl, homed_few, homed_none, room_in_range, vacant_len}
+use Rattle.bucket_table.proofs.Moves.RoomMade.{homed_few, homed_none, on_ok, room_in_range, vacant_len}
 
 -- the law of each old bucket has one source of each current one
 pub other_target : (from to i index j : ℕ) → IsLength from → IsLength to → from ≤ to → j < to → i < from → index < from → (i ≡ index → ⊥)
@@ -48,19 +48,39 @@ module _ {K V : Type 0} where
         → All (IsEntryHome hash from index) (entries_in s) → All (HasOwnByte hash) (entries_in s)
     own_bytes from index s homes = λ k d below. (homes k d below).own_byte
 
-    -- empty targets have room for 32 pairs
-    pub room_in_targets : (c l : List (BucketView K V)) (index start end : ℕ) → AreTwoArrays hash c l → index < length l
-        → (bucket_at l index).killed ≡ false → length l ≤ length c → end ≤ length c → length (pairs_in (bucket_at l index)) ≤ 32
-        → ((j : ℕ) → IsInRange start end j ↔ Meets (length l) index (length c) j)
-        → All (λ (p : K × V). IsInRange start end (home_of (length c) (hash p.0))) (pairs_in (bucket_at l index))
-        → HasRoomFor hash c (pairs_in (bucket_at l index))
-    room_in_targets c l index start end law within alive le ends few range all =
-        room_in_range hash c start end (pairs_in (bucket_at l index)) all (λ j inside.
-        let vacant = law.empty_targets le index j within (omega (arith, inside.1)) alive ((range j).0 inside) in
-        omega (arith, vacant_len (bucket_at c j) vacant, homed_few hash (length c) j (pairs_in (bucket_at l index))))
-
     pub homes_kept : (c d : List (BucketView K V)) → KeepsEntries c d → AreHome hash c → AreHome hash d
     homes_kept c d kept homes i within = rw (kept.len, kept.entries i) (homes i (omega (arith, kept.len)))
+
+    -- a bucket that is lent is bound as before
+    pub bound_lent : {from start end : ℕ} {s b : BucketView K V} {c : List (BucketView K V)} → s ≡ b → IsBound hash from start end b c
+        → IsBound hash from start end s c
+    bound_lent same bound = rw same bound
+
+    -- the pairs of a bucket that is bound have room in empty buckets, if there are at most 32
+    pub ready_unreserved : {from start end : ℕ} {s : BucketView K V} {c : List (BucketView K V)} → IsBound hash from start end s c
+        → from ≤ length c → length (pairs_in s) ≤ 32 → CanMoveInto hash start end s c
+    ready_unreserved {start} {end} {s} {c} bound le few = record {
+      within = bound.within;
+      in_range = bound.in_range;
+      own_bytes = bound.own_bytes;
+      homes = bound.homes;
+      room = room_in_range hash c start end (pairs_in s) bound.in_range (λ j inside.
+          omega (arith, vacant_len (bucket_at c j) (bound.vacant le j inside), homed_few hash (length c) j (pairs_in s), few));
+      alive = bound.alive;
+    }
+
+    -- or where it was made
+    pub ready_reserved : {A E : Type 0} (r : Result A E) {from start end : ℕ} {s : BucketView K V} {c d : List (BucketView K V)}
+        → IsBound hash from start end s c → KeepsEntries c d → OnOk r (HasRoomFor hash d (pairs_in s))
+        → OnOk r (CanMoveInto hash start end s d)
+    ready_reserved r {s} {c} {d} bound kept room = on_ok r (λ made. record {
+      within = omega (arith, bound.within, kept.len);
+      in_range = rw kept.len bound.in_range;
+      own_bytes = bound.own_bytes;
+      homes = homes_kept c d kept bound.homes;
+      room = made;
+      alive = λ j below. kept.alive j ∙ bound.alive j (omega (arith, below, kept.len));
+    }) room
 
     -- room was made, and the law still holds
     pub law_kept : (c d l : List (BucketView K V)) → KeepsEntries c d → AreTwoArrays hash c l → AreTwoArrays hash d l
@@ -90,32 +110,14 @@ module _ {K V : Type 0} where
       other_current = λ j out. refl;
     }
 
-    -- room was made, or was there already: the pairs of s have room in d
-    pub record IsPrepared (start end : ℕ) (s : BucketView K V) (c d : List (BucketView K V)) : Type 0 where
-      pub kept : KeepsEntries c d
-      pub others : KeepsOthers start end c d
-      pub room : HasRoomFor hash d (pairs_in s)
-
-    -- old bucket `index`, and the current buckets from start up to but not including end, which are its targets
-    pub record AreTargets (c l : List (BucketView K V)) (index start end : ℕ) : Type 0 where
-      pub law : AreTwoArrays hash c l
-      pub within : index < length l
-      pub current_long : IsLength (length c)
-      pub linked_long : IsLength (length l)
-      pub range : (j : ℕ) → IsInRange start end j ↔ Meets (length l) index (length c) j
-      pub ends : end ≤ length c
-
     -- the pairs of bucket `index` have moved into c2, after room was made in c1, and the bucket is killed
     module _ {kind index start end : ℕ} {c0 c1 c2 l0 l2 : List (BucketView K V)} {left : BucketView K V}
-        (targets : AreTargets c0 l0 index start end) (prepared : IsPrepared start end (bucket_at l0 index) c0 c1)
+        (targets : AreTargets hash c0 l0 index start end) (kept : KeepsEntries c0 c1) (others : KeepsOthers start end c0 c1)
         (moved : MovesInto hash (bucket_at l0 index) c1 left c2) (homes : AreHome hash c2) (emptied : pairs_in left ≡ [])
         (laws : IsBucketOf kind (bucket_at l0 index)) (alive : (bucket_at l0 index).killed ≡ false)
         (l2_is : l2 ≡ set l0 index (slots_killed kind left)) where
       abbrev law : AreTwoArrays hash c0 l0
       law = targets.law
-
-      abbrev kept : KeepsEntries c0 c1
-      kept = prepared.kept
 
       in_range : All (λ (p : K × V). IsInRange start end (home_of (length c0) (hash p.0))) (pairs_in (bucket_at l0 index))
       in_range = homes_in_range (length l0) (length c0) index start end (bucket_at l0 index) (some_width (length c0) targets.current_long)
@@ -128,7 +130,7 @@ module _ {K V : Type 0} where
       same_bucket j out =
           let outside : IsInRange start end j → ⊥ = λ r. out ((targets.range j).0 r) in
           let none = homed_none hash (length c0) start end j (pairs_in (bucket_at l0 index)) in_range outside in
-          moved.others j (rw kept.len none) ∙ prepared.others j outside
+          moved.others j (rw kept.len none) ∙ others j outside
 
       entries_moved : IsPermutation (entries_among c0 ++ entries_among l0) (entries_among c2 ++ entries_among l2)
       entries_moved =
@@ -196,7 +198,7 @@ module _ {K V : Type 0} where
     -- as the calls state it, in which from and to are the lengths
     pub targets_of : {c l : List (BucketView K V)} {from to index start end : ℕ} → AreTwoArrays hash c l → index < length l
         → from ≡ length l → to ≡ length c → IsLength from → IsLength to
-        → ((j : ℕ) → IsInRange start end j ↔ Meets from index to j) → end ≤ to → AreTargets c l index start end
+        → ((j : ℕ) → IsInRange start end j ↔ Meets from index to j) → end ≤ to → AreTargets hash c l index start end
     targets_of law within from_is to_is from_long to_long range ends = record {
       law = law;
       within = within;
@@ -207,51 +209,42 @@ module _ {K V : Type 0} where
     }
 
     -- s is the bucket that is lent
-    module _ {c l : List (BucketView K V)} {s : BucketView K V} {index start end : ℕ} (targets : AreTargets c l index start end)
+    module _ {c l : List (BucketView K V)} {s : BucketView K V} {index start end : ℕ} (targets : AreTargets hash c l index start end)
         (s_is : s ≡ bucket_at l index) where
       homes_here : All (IsEntryHome hash (length l) index) (entries_in s)
       homes_here = rw s_is (targets.law.linked_home index targets.within)
 
-      pub in_targets : All (λ (p : K × V). IsInRange start end (home_of (length c) (hash p.0))) (pairs_in s)
+      in_targets : All (λ (p : K × V). IsInRange start end (home_of (length c) (hash p.0))) (pairs_in s)
       in_targets =
           homes_in_range (length l) (length c) index start end s (some_width (length c) targets.current_long) targets.range homes_here
 
       set_same : set l index s ≡ l
       set_same = ap (λ (b : BucketView K V). set l index b) s_is ∙ set-get_or l index _
 
-      -- no room has to be made
-      pub unreserved : s.killed ≡ false → length l ≤ length c → length (pairs_in s) ≤ 32 → IsPrepared start end s c c
-      unreserved alive le few = record {
-        kept = KeepsEntries-refl c;
-        others = λ j out. refl;
-        room = rw s_is (room_in_targets c l index start end targets.law targets.within (rw s_is at alive) le targets.ends (rw s_is at few)
-            targets.range (rw s_is at in_targets));
+      -- its pairs can move there, once there is room
+      pub bound : {from : ℕ} → start < end → (bucket_at l index).killed ≡ false → from ≡ length l → IsBound hash from start end s c
+      bound some alive from_is = record {
+        some = some;
+        within = targets.ends;
+        in_range = in_targets;
+        own_bytes = own_bytes (length l) index s homes_here;
+        homes = targets.law.current_home;
+        alive = targets.law.alive;
+        vacant = λ le j inside. targets.law.empty_targets (omega (arith, from_is, le)) index j targets.within
+            (omega (arith, inside.1, targets.ends)) alive ((targets.range j).0 inside);
       }
-
-      pub killed_already : s.killed ≡ true → IsRelocated index c l c l
-      killed_already killed = nothing_moved c l index targets.law targets.within (rw s_is at killed)
 
       pub refused : (d : List (BucketView K V)) → KeepsEntries c d → AreTwoArrays hash d (set l index s)
       refused d kept = rw set_same (law_kept c d l kept targets.law)
 
-      pub can_move : {d : List (BucketView K V)} → IsPrepared start end s c d → CanMoveInto hash start end s d
-      can_move {d} prepared = record {
-        within = omega (arith, targets.ends, prepared.kept.len);
-        in_range = rw prepared.kept.len in_targets;
-        own_bytes = own_bytes (length l) index s homes_here;
-        homes = homes_kept c d prepared.kept targets.law.current_home;
-        room = prepared.room;
-        alive = λ j below. prepared.kept.alive j ∙ targets.law.alive j (omega (arith, below, prepared.kept.len));
-      }
-
       pub all_moved : (kind : ℕ) {d e : List (BucketView K V)} {left killed : BucketView K V}
-          → IsPrepared start end s c d → MovesInto hash s d left e → AreHome hash e → pairs_in left ≡ [] → IsBucketOf kind s
-          → s.killed ≡ false → killed ≡ slots_killed kind left
+          → KeepsEntries c d → KeepsOthers start end c d → MovesInto hash s d left e → AreHome hash e → pairs_in left ≡ []
+          → IsBucketOf kind s → s.killed ≡ false → killed ≡ slots_killed kind left
           → IsRelocated index c l e (set l index killed) × AreTwoArrays hash e (set l index killed)
-      all_moved kind {d} {e} {left} {killed} prepared moved homes emptied laws alive killed_is =
+      all_moved kind {d} {e} {left} {killed} kept others moved homes emptied laws alive killed_is =
           let l_is : set l index killed ≡ set l index (slots_killed kind left) = ap (λ (b : BucketView K V). set l index b) killed_is in
-          let room = rw s_is at prepared in
           let moves = rw s_is at moved in
           let lawful = rw s_is at laws in
           let stood = rw s_is at alive in
-          (relocated targets room moves homes emptied lawful stood l_is, law_after targets room moves homes emptied lawful stood l_is)
+          let is = relocated targets kept others moves homes emptied lawful stood l_is in
+          (is, law_after targets kept others moves homes emptied lawful stood l_is)

@@ -33,6 +33,8 @@ part_zeros n k below =
     let all = length-replicate {A = ℕ} 8 0 in
     get_or-take n (replicate {A = ℕ} 8 0) k 0 (omega (arith, long)) ∙ get_or-replicate 8 k 0 0 (omega (arith, long, all))
 
+pub ruleset few_zeros = (part_len, part_zeros)
+
 -- a list of zeros
 pub zeros_len : (n : ℕ) (xs : List ℕ) → xs ≡ replicate n 0 → length xs ≡ n
 zeros_len n xs e = ap length e ∙ length-replicate n 0
@@ -40,7 +42,7 @@ zeros_len n xs e = ap length e ∙ length-replicate n 0
 pub zeros_each : (n : ℕ) (xs : List ℕ) → xs ≡ replicate n 0 → (k : ℕ) → k < length xs → get_or xs k 0 ≡ 0
 zeros_each n xs e k below = ap (λ l. get_or l k 0) e ∙ get_or-replicate n k 0 0 (omega (arith, zeros_len n xs e))
 
-on_ok : {A E : Type 0} {P Q : Type 0} (r : Result A E) → (P → Q) → OnOk r P → OnOk r Q
+pub on_ok : {A E : Type 0} {P Q : Type 0} (r : Result A E) → (P → Q) → OnOk r P → OnOk r Q
 on_ok (Ok x) f h = f h
 on_ok (Err e) f h = h
 
@@ -159,11 +161,6 @@ module _ {K V : Type 0} where
   others_in c d start end last same others = subst (λ (e : ℕ). KeepsOthers start e c d) same others
 
   module _ (hash : K → ℕ) where
-    pub range_as : (len start end last : ℕ) (ps : List (K × V)) → end ≡ last
-        → All (λ (p : K × V). IsInRange start end (home_of len (hash p.0))) ps
-        → All (λ (p : K × V). IsInRange start last (home_of len (hash p.0))) ps
-    range_as len start end last ps same all = subst (λ (e : ℕ). All (λ (p : K × V). IsInRange start e (home_of len (hash p.0))) ps) same all
-
     -- no pair's home is outside the range of their homes
     pub homed_none : (len start end j : ℕ) (ps : List (K × V)) → All (λ (p : K × V). IsInRange start end (home_of len (hash p.0))) ps
         → (IsInRange start end j → ⊥) → homed_len hash len j ps ≡ 0

@@ -5,11 +5,13 @@ use Rattle.std.specs.Prelude.{◌⊎◌, flat_map, map, slice_index_or, slice_se
 use Rattle.std.specs.List.{All, Contains, filter}
 use Rattle.bucket_slots.specs.ArrayView.{bucket_at}
 use Rattle.bucket_slots.specs.BucketView.{BucketView, Place, listed_pairs, pairs_in}
-use Rattle.bucket_slots.specs.Recency.{is_listed}
+use Rattle.bucket_slots.specs.Evicting.{slots_unlisted}
+use Rattle.bucket_slots.specs.Recency.{IsRecencyOrder, is_listed}
 use Rattle.bucket_slots.specs.Slots.{is_free, is_live, live_pair, live_pairs, slot_at}
+use Rattle.bucket_slots.specs.declared.bucket.TheConstants.{CACHE}
 use Rattle.bucket_table.specs.declared.arrays.relocate.Landing.{Landing}
 use Rattle.bucket_table.specs.Rehash.Carrying.{WentInOrder, chained_pairs}
-use Rattle.bucket_table.specs.Rehash.Relocation.{KeepsPlaces, homed_len}
+use Rattle.bucket_table.specs.Rehash.Relocation.{KeepsPlaces, MovesInto, homed_len}
 
 -- the pair is in a bucket's chain
 abbrev pub StandsInChain : {K V : Type 0} → BucketView K V → K × V → Type 0
@@ -103,3 +105,18 @@ pub record ListsArrivals {K V : Type 0} (landings : List (Option Landing)) (orde
   pub len : length new_current ≡ length current
   pub each : (j : ℕ) → bucket_at new_current j
       ≡ record (bucket_at current j) { listed = (bucket_at current j).listed ++ arrivals landings j order }
+
+-- an order of own slots that was taken from a bucket: if there are any, the bucket is a cache's and its list keeps slots
+pub record IsTakenOrder (kind : ℕ) (keeps : Bool) (order : List ℕ) : Type 0 where
+  pub once : IsRecencyOrder order
+  pub cache : 0 < length order → kind ≡ CACHE
+  pub keeps_slots : 0 < length order → keeps ≡ true
+
+-- the list of a bucket was emptied, and its first pairs have moved into an array, but none if slots were listed
+pub record HasBegun {K V : Type 0} (hash : K → ℕ) (source : BucketView K V) (current : List (BucketView K V))
+    (left : BucketView K V) (new_current : List (BucketView K V)) : Type 0 where
+  pub moved : MovesInto hash source current left new_current
+  pub in_order : MoveInOrder source left new_current
+  pub stay : KeepsPlaces current new_current
+  pub same_lists : (j : ℕ) → listed_pairs (bucket_at new_current j) ≡ listed_pairs (bucket_at current j)
+  pub only_emptied : 0 < length source.listed → (left ≡ slots_unlisted source) × (new_current ≡ current)

@@ -2,22 +2,23 @@
 //!
 //! Ports `relocate_bucket` of scc's `src/hash_table.rs`.
 ghost use Rattle.std.specs.Prelude.{false, ◌≡◌, ◌+◌, ◌<◌, ◌≤◌, true, IsOk, OnOk, OnErr, length, []};
-ghost use Rattle.std.specs.Prelude.{ℕ, Some, None, IsTrue, slice_index};
+ghost use Rattle.std.specs.Prelude.{ℕ, IfNone, IfOk, IfSome, IsTrue, None, Some, replicate};
+ghost use Rattle.std.specs.Prelude.{slice_index, take};
 ghost use Rattle.bucket_slots.specs.ArrayView.{bucket_at};
 ghost use Rattle.bucket_slots.specs.Homes.{IsInRange};
 ghost use Rattle.bucket_table.specs.Views.ArraysView.{ArePlaced};
 ghost use Rattle.bucket_table.specs.Layout.Landings.{CarriesRecency, AreListable, HaveLanded};
-ghost use Rattle.bucket_table.specs.Layout.Landings.{ListsArrivals, MoveInOrder, landing_of};
-ghost use Rattle.bucket_table.specs.Layout.Landings.{landings_with};
+ghost use Rattle.bucket_table.specs.Layout.Landings.{HasBegun, IsTakenOrder, ListsArrivals};
+ghost use Rattle.bucket_table.specs.Layout.Landings.{MoveInOrder, landings_with};
 ghost use Rattle.bucket_table.specs.Rehash.Rehashing.{IsUnmoved, RelocatesAt};
 ghost use Rattle.bucket_table.specs.Rehash.Units.{KillsOnly, NeedsNoMemory, SpendsSome};
 ghost use Rattle.bucket_table.specs.Rehash.Units.{NeedsMemory, WorksRange};
 ghost use Rattle.std.specs.List.{All};
 ghost use Rattle.bucket_slots.specs.BucketView.{BucketView, pairs_in, slot_in};
-ghost use Rattle.bucket_slots.specs.Recency.{IsRecencyOrder};
+ghost use Rattle.bucket_slots.specs.Recency.{order_and_zeros};
 ghost use Rattle.bucket_slots.specs.Reserving.{free_len_in};
-ghost use Rattle.bucket_slots.specs.Slots.{is_free, is_live, live_pair};
-ghost use Rattle.bucket_table.specs.Layout.Moving.{CanMoveInto, MovesHome};
+ghost use Rattle.bucket_slots.specs.Slots.{is_live, live_pair};
+ghost use Rattle.bucket_table.specs.Layout.Moving.{AreTargets, CanMoveInto, IsBound, MovesHome};
 ghost use Rattle.bucket_table.specs.Rehash.Carrying.{WentInOrder};
 ghost use Rattle.bucket_table.specs.Rehash.Relocation.{AreHome, AreTwoArrays, HasRoomFor};
 ghost use Rattle.bucket_table.specs.Rehash.Relocation.{IsRelocated, IsWay, KeepsEntries};
@@ -27,7 +28,7 @@ use super::Arrays;
 use super::side::current_in;
 use crate::capacity::from_index_to_range;
 use crate::key_hash::KeyHash;
-use bucket_slots::bucket::{BUCKET_LEN, Bucket, CACHE, EntryPtr};
+use bucket_slots::bucket::{BUCKET_LEN, Bucket, EntryPtr};
 use bucket_slots::bucket_array::BucketArray;
 use bucket_slots::lru::LruList;
 use std::alloc::{AllocError, Global};
@@ -103,6 +104,7 @@ pub(crate) struct Landing {
 /// # Errors
 ///
 /// Allocation failed: no pair has moved, no LRU list has changed, and the bucket isn't killed.
+#[tactic(auto, using(crate::proofs::Moves::Relocating::bound_lent))]
 pub(crate) fn relocate<K: Eq + Drop, V: Drop, H: KeyHash<K>, L: LruList, const TYPE: u8>(
     alloc: Global,
     hasher: &H,
@@ -125,25 +127,80 @@ pub(crate) fn relocate<K: Eq + Drop, V: Drop, H: KeyHash<K>, L: LruList, const T
 {
     current.fact_room();
     let from = linked.len();
-    let to = current.len();
-    let (start, end) = from_index_to_range(from, to, index);
-    if linked.bucket(index).is_killed() {
+    let Some(targets) = targets_of(hasher, current, linked, index, from) else {
         return Ok(());
-    }
+    };
     let source = linked.bucket_mut(index);
     source.fact_sound();
-    if to < from || BUCKET_LEN < source.len() {
-        if let Err(refused) = reserve_targets(alloc, hasher, current, source, start, end) {
-            return Err(refused);
-        }
-    }
-    carry_pairs(hasher, current, source, start, end);
+    let Ok(()) = make_room(alloc, hasher, current, source, targets, from) else {
+        return Err(AllocError);
+    };
+    carry_pairs(hasher, current, source, targets.0, targets.1);
     source.kill();
+    Ok(())
+}
+
+/// Returns the range of the buckets of the current array to which the pairs of a bucket of the old
+/// array move, or `None` if that is killed. The old array has `from` buckets.
+#[inline(always)]
+fn targets_of<K: Eq, V, H: KeyHash<K>, L: LruList, const TYPE: u8>(
+    _hasher: &H,
+    current: &BucketArray<K, V, L, TYPE>,
+    linked: &BucketArray<K, V, L, TYPE>,
+    index: usize,
+    from: usize,
+) -> Option<(usize, usize)>
+    requires within { index < length linked.now }
+    requires len { from ≡ length linked.now }
+    requires law { AreTwoArrays (H.hash_of _hasher.now) current.now linked.now }
+    ensures killed { IfNone result ((bucket_at linked.now index).killed ≡ true) }
+    ensures alive { IfSome result (λ _. (bucket_at linked.now index).killed ≡ false) }
+    ensures targets { IfSome result (λ targets. AreTargets (H.hash_of _hasher.now)
+        current.now linked.now index targets.0 targets.1) }
+    ensures bound { IfSome result (λ targets. IsBound (H.hash_of _hasher.now)
+        from targets.0 targets.1 (bucket_at linked.now index) current.now) }
+{
+    current.fact_room();
+    if linked.bucket(index).is_killed() {
+        return None;
+    }
+    let _len = linked.len();
+    Some(from_index_to_range(from, current.len(), index))
+}
+
+/// Makes room for the pairs of a bucket of an array of `from` buckets in its targets, which are the
+/// buckets from the first number of `targets` up to but not including the second, if there may be
+/// too little: that array is longer, or the bucket has more pairs than an empty target has own
+/// slots.
+#[inline(always)]
+fn make_room<K: Eq + Drop, V: Drop, H: KeyHash<K>, L: LruList, const TYPE: u8>(
+    alloc: Global,
+    hasher: &H,
+    current: &mut BucketArray<K, V, L, TYPE>,
+    source: &Bucket<K, V, L, TYPE>,
+    targets: (usize, usize),
+    from: usize,
+) -> Result<(), AllocError>
+    requires { IsBound (H.hash_of hasher.now) from targets.0 targets.1 source.now current.old }
+    ensures ready { OnOk result
+        (CanMoveInto (H.hash_of hasher.now) targets.0 targets.1 source.now current.new) }
+    ensures kept { KeepsEntries current.old current.new }
+    ensures others { KeepsOthers targets.0 targets.1 current.old current.new }
+    ensures never_refused { from ≤ length current.old
+        → length (pairs_in source.now) ≤ BUCKET_LEN
+        → IsOk result }
+{
+    current.fact_room();
+    let to = current.len();
+    if to < from || BUCKET_LEN < source.len() {
+        return reserve_targets(alloc, hasher, current, source, targets.0, targets.1);
+    }
     Ok(())
 }
 
 /// Reserves a slot for each pair of a bucket in its home, which is one of the buckets from `start`
 /// up to but not including `end`.
+#[tactic(auto, using(crate::proofs::Moves::RoomMade::few_zeros))]
 fn reserve_targets<K: Eq + Drop, V: Drop, H: KeyHash<K>, L: LruList, const TYPE: u8>(
     alloc: Global,
     hasher: &H,
@@ -172,11 +229,24 @@ fn reserve_targets<K: Eq + Drop, V: Drop, H: KeyHash<K>, L: LruList, const TYPE:
         count_targets(hasher, current, source, start, part);
         return reserve_each(current, start, part);
     }
-    let Ok(mut counts) = vec![in alloc; 0; len] else {
+    let Ok(mut counts) = zero_counts(alloc, len) else {
         return Err(AllocError);
     };
     count_targets(hasher, current, source, start, &mut counts);
     reserve_each(current, start, &counts)
+}
+
+/// Returns `len` counts of 0.
+#[inline(always)]
+fn zero_counts(alloc: Global, len: usize) -> Result<Vec<usize>, AllocError>
+    ensures len { IfOk result (λ counts. length counts.items ≡ len) }
+    ensures zeros { IfOk result (λ counts. (k : ℕ) → k < length counts.items
+        → slice_index counts.items k ≡ 0) }
+{
+    let Ok(counts) = vec![in alloc; 0; len] else {
+        return Err(AllocError);
+    };
+    Ok(counts)
 }
 
 /// Counts the pairs of a bucket by their homes, starting at bucket `start` of an array.
@@ -245,15 +315,40 @@ fn carry_pairs<K: Eq + Drop, V: Drop, H: KeyHash<K>, L: LruList, const TYPE: u8>
     ensures recency { CarriesRecency source.old current.old current.new }
 {
     source.fact_sound();
-    let (order, len) = source.take_lru();
+    let (order, len) = take_order(hasher, current, source, start, end);
     if len == 0 {
-        current.spread_own(source, start, end, &|key: &K| hasher.hash_one(key));
         move_pairs(hasher, current, source, (start, end), &mut []);
         return;
     }
     let mut landings = [None; BUCKET_LEN];
     move_pairs(hasher, current, source, (start, end), &mut landings);
     append_arrivals(current, &order[..len], &landings);
+}
+
+/// Empties the LRU list of a bucket whose pairs can move, and returns its slots, newest first, and
+/// their number. If there are none, pairs of own slots may move already.
+#[inline(always)]
+fn take_order<K: Eq + Drop, V: Drop, H: KeyHash<K>, L: LruList, const TYPE: u8>(
+    hasher: &H,
+    current: &mut BucketArray<K, V, L, TYPE>,
+    source: &mut Bucket<K, V, L, TYPE>,
+    start: usize,
+    end: usize,
+) -> ([u8; BUCKET_LEN], usize)
+    requires { CanMoveInto (H.hash_of hasher.now) start end source.old current.old }
+    ensures ready { CanMoveInto (H.hash_of hasher.now) start end source.new current.new }
+    ensures order { IsTakenOrder TYPE L.KEEPS (take result.1 result.0) }
+    ensures number { result.1 ≡ length source.old.listed }
+    ensures bytes { result.0 ≡ order_and_zeros source.old.listed }
+    ensures begun { HasBegun (H.hash_of hasher.now) source.old current.old source.new current.new }
+{
+    source.fact_sound();
+    let (order, len) = source.take_lru();
+    if len > 0 {
+        return (order, len);
+    }
+    current.spread_own(source, start, end, &|key: &K| hasher.hash_one(key));
+    (order, len)
 }
 
 /// Moves each pair of a bucket to its home in an array that has room for it, which is one of the
@@ -269,7 +364,7 @@ fn move_pairs<K: Eq + Drop, V: Drop, H: KeyHash<K>, L: LruList, const TYPE: u8>(
     landings: &mut [Option<Landing>],
 )
     requires ready { CanMoveInto (H.hash_of hasher.now) targets.0 targets.1 source.old current.old }
-    requires unsaid { (slot : ℕ) → landing_of landings.old slot ≡ None }
+    requires unsaid { landings.old ≡ replicate (length landings.old) None }
     ensures moved { MovesInto (H.hash_of hasher.now) source.old current.old source.new current.new }
     ensures homes { AreHome (H.hash_of hasher.now) current.new }
     ensures emptied { pairs_in source.new ≡ [] }
@@ -291,7 +386,6 @@ fn move_pairs<K: Eq + Drop, V: Drop, H: KeyHash<K>, L: LruList, const TYPE: u8>(
 /// Moves the pair at a pointer to its home, and records its new place in `landings`. The pointer
 /// stays.
 #[inline(always)]
-#[tactic(auto, using(crate::proofs::Words::live_not_free))]
 fn move_pair<K: Eq + Drop, V: Drop, H: KeyHash<K>, L: LruList, const TYPE: u8>(
     hasher: &H,
     current: &mut BucketArray<K, V, L, TYPE>,
@@ -341,10 +435,8 @@ fn append_arrivals<K: Eq + Drop, V: Drop, L: LruList, const TYPE: u8>(
     order: &[u8],
     landings: &[Option<Landing>; BUCKET_LEN],
 )
-    requires once { IsRecencyOrder order.now }
+    requires order { IsTakenOrder TYPE L.KEEPS order.now }
     requires table { AreListable landings.now current.old }
-    requires cache { 0 < length order.now → TYPE ≡ CACHE }
-    requires keeps { 0 < length order.now → L.KEEPS ≡ true }
     ensures { ListsArrivals landings.now order.now current.old current.new }
 {
     current.fact_room();
@@ -361,6 +453,7 @@ fn append_arrivals<K: Eq + Drop, V: Drop, L: LruList, const TYPE: u8>(
 /// pair's fingerprint. If there is one target, the stored fingerprint is enough; otherwise the key
 /// is hashed again.
 #[inline(always)]
+#[tactic(auto, using(crate::proofs::Words::live_not_free))]
 fn destination_of<K: Eq, V, H: KeyHash<K>, L: LruList, const TYPE: u8>(
     hasher: &H,
     current: &BucketArray<K, V, L, TYPE>,
@@ -370,9 +463,12 @@ fn destination_of<K: Eq, V, H: KeyHash<K>, L: LruList, const TYPE: u8>(
 ) -> (usize, u64)
     requires ready { CanMoveInto (H.hash_of hasher.now) targets.0 targets.1 source.now
         current.now }
-    requires occupied { is_free (slot_in source.now at.now) ≡ false }
-    ensures { (pair : K × V) → live_pair (slot_in source.now at.now) ≡ Some pair
+    requires live_slot { IsTrue (is_live (slot_in source.now at.now)) }
+    ensures way { (pair : K × V) → live_pair (slot_in source.now at.now) ≡ Some pair
         → IsWay (H.hash_of hasher.now) (length current.now) pair result.0 result.1 }
+    ensures within { result.0 < length current.now }
+    ensures alive { (home : BucketView K V) → home ≡ bucket_at current.now result.0
+        → home.killed ≡ false }
 {
     let _buckets = current.len();
     let (start, end) = targets;

@@ -287,7 +287,9 @@ impl<K: Eq + Drop, V: Drop, H: KeyHash<K>, L: LruList + Drop, const TYPE: u8> Ha
     /// at most four buckets and `find` would change nothing.
     #[inline(always)]
     pub(super) fn short_home(&self, hash: u64) -> Option<usize>
-        ensures { IfSome result (λ index. (rule : ResizeRule)
+        ensures locked { IfSome result (λ index. IsLocked self.now.arrays Current index) }
+        ensures home { IfSome result (λ index. IsHome (length self.now.arrays.current) hash index) }
+        ensures found { IfSome result (λ index. (rule : ResizeRule)
             → FindsBucket rule TYPE hash self.now Current index self.now) }
     {
         self.arrays.short_home(hash)
@@ -297,7 +299,9 @@ impl<K: Eq + Drop, V: Drop, H: KeyHash<K>, L: LruList + Drop, const TYPE: u8> Ha
     /// shows that `find` would change nothing.
     #[inline(always)]
     pub(super) fn roomy_home(&self, hash: u64) -> Option<usize>
-        ensures { IfSome result (λ index. (rule : ResizeRule)
+        ensures locked { IfSome result (λ index. IsLocked self.now.arrays Current index) }
+        ensures home { IfSome result (λ index. IsHome (length self.now.arrays.current) hash index) }
+        ensures found { IfSome result (λ index. (rule : ResizeRule)
             → FindsBucket rule TYPE hash self.now Current index self.now) }
     {
         self.arrays.roomy_home(hash)

@@ -83,10 +83,10 @@ impl<K: Eq + Drop, V: Drop, H: KeyHash<K>, const TYPE: u8> HashTable<
     #[tactic(auto, using(crate::proofs::Walking::Retaining::next_live))]
     fn pour_chain(&mut self, bucket: &mut Bucket<K, V, DoublyLinkedList, TYPE>)
         requires cache { TYPE ≡ CACHE }
-        requires awaits { Awaits K.eq self.old (chain_pairs bucket.old) }
+        requires awaits { Awaits K.eq self.old (pairs_by_age bucket.old) }
         ensures poured { Pours H.hash_of self.old (chain_pairs bucket.old) self.new }
-        ensures own { bucket.new.own ≡ bucket.old.own }
-        ensures listed { bucket.new.listed ≡ bucket.old.listed }
+        ensures left { own_by_age bucket.new ≡ own_by_age bucket.old }
+        ensures awaits { Awaits K.eq self.new (own_by_age bucket.new) }
     {
         bucket.fact_sound();
         let mut at = EntryPtr::own_slot(BUCKET_LEN - 1);

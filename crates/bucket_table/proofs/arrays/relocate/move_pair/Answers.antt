@@ -1,27 +1,16 @@
-use Rattle.bucket_table.proofs.Words.{ap, rules}
+use Rattle.bucket_table.proofs.Words.{ap}
 use Rattle.std.proofs.Common.{slice_set}
 use Rattle.bucket_slots.proofs.RoomAfter.{refused_full}
 use Rattle.bucket_table.proofs.Map.LockedSteps.{pair_there}
 use Rattle.bucket_table.proofs.Moves.MovingPairs.{home_has_room}
 use Rattle.bucket_table.proofs.arrays.relocate.move_pair.Goals as goal
 
-pub bucket_mut-target-requires : goal.bucket_mut-target-requires
-bucket_mut-target-requires g c =
-    let there = pair_there c.args.source.now c.args.at.now c.requires.live_slot in
-    (search rules, (search rules, (c.destination_of-home.ensures there.0 there.1).home.within))
-
-pub extract_from-requires : goal.extract_from-requires
-extract_from-requires g c =
-    let there = pair_there c.args.source.now c.args.at.now c.requires.live_slot in
-    let alive = c.requires.ready.alive _ (c.destination_of-home.ensures there.0 there.1).home.within in
-    (search rules, (search rules, (rw c.bucket_mut-target.ensures.bucket alive, c.requires.live_slot)))
-
 pub unreachable-requires : goal.unreachable-requires
 unreachable-requires g c =
     let there = pair_there c.args.source.now c.args.at.now c.requires.live_slot in
     let none = rw c.in_default.is at (refused_full c.extract_from.result _ _ _ c.extract_from.ensures.refused) in
     home_has_room (g.H.KeyHash.hash_of c.args.hasher.now) c.args.at.now there.0 c.requires.ready there.1
-    (c.destination_of-home.ensures there.0 there.1) (rw c.bucket_mut-target.ensures.bucket at none)
+    (c.destination_of-home.ensures.way there.0 there.1) (rw c.bucket_mut-target.ensures.bucket at none)
 
 pub returns-clause-moved : goal.returns-clause-moved
 returns-clause-moved g c =
@@ -32,7 +21,7 @@ returns-clause-moved g c =
       here = put.1;
       home = c.destination_of-home.result.0;
       number = c.destination_of-home.result.1;
-      way = c.destination_of-home.ensures put.0 put.1;
+      way = c.destination_of-home.ensures.way put.0 put.1;
       bucket_laws = c.fact_sound.ensures;
       home_laws = rw target at c.fact_sound-2.ensures;
       vacated = c.in-Ok.ensures.vacated;

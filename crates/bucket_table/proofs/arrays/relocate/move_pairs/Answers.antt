@@ -1,10 +1,14 @@
-use Rattle.bucket_table.proofs.Moves.Landings.{landed_all}
+use Rattle.bucket_table.proofs.Words.{List, Option, ap, landing_of, ℕ, ◌∙◌}
+use Rattle.bucket_table.specs.declared.arrays.relocate.Landing.{Landing}
+use Rattle.bucket_table.proofs.Moves.Landings.{landed_all, none_said}
 use Rattle.bucket_table.proofs.Moves.MovingInOrder.{in_order_last}
 use Rattle.bucket_table.proofs.Moves.MovingPairs.{moving_again, moving_done, moving_first, moving_step}
 use Rattle.bucket_table.proofs.arrays.relocate.move_pairs.Goals as goal
 
 pub own-init : goal.own-init
-own-init g c = rw c.null-at.ensures (moving_first (g.H.KeyHash.hash_of c.args.hasher.now) c.requires.ready c.requires.unsaid)
+own-init g c =
+    let unsaid = λ (slot : ℕ). ap (λ (those : List (Option Landing)). landing_of those slot) c.requires.unsaid ∙ none_said _ slot in
+    rw c.null-at.ensures (moving_first (g.H.KeyHash.hash_of c.args.hasher.now) c.requires.ready unsaid)
 
 pub own-smaller : goal.own-smaller
 own-smaller g c =

@@ -1,6 +1,6 @@
-use Rattle.bucket_table.proofs.Words.{[], ap, arith, get_or, length, replicate, rules, ℕ, ◌+◌, ◌-◌, ◌∙◌, ◌∷◌, ◌≡◌}
+use Rattle.bucket_table.proofs.Words.{[], ap, arith, get_or, length, ℕ, ◌+◌, ◌-◌, ◌∙◌, ◌∷◌, ◌≡◌}
 use Rattle.std.proofs.lemmas.List.{take_at}
-use Rattle.bucket_table.proofs.Moves.RoomMade.{counted_one, others_in, part_len, part_zeros, range_as, room_made, zeros_each, zeros_len}
+use Rattle.bucket_table.proofs.Moves.RoomMade.{counted_one, others_in, part_len, room_made}
 use Rattle.bucket_table.proofs.arrays.relocate.reserve_targets.Goals as goal
 
 pub returns-then-len-eq1-clause-room : goal.returns-then-len-eq1-clause-room
@@ -13,21 +13,6 @@ pub returns-then-len-eq1-clause-others : goal.returns-then-len-eq1-clause-others
 returns-then-len-eq1-clause-others g c =
     others_in c.args.current.now c.reserve_each.new.current c.args.start c.args.end (c.args.start + 1)
     (omega (arith, c.if-len-eq1.true, c.requires.some)) c.reserve_each.ensures.others
-
-pub count_targets-requires : goal.count_targets-requires
-count_targets-requires g c =
-    let n : ℕ = c.args.end - c.args.start in
-    let long = part_len n c.if-len-le-COUNTED_TARGETS.true in (
-      search rules,
-      (
-        search rules,
-        (
-          part_zeros n,
-          range_as (g.H.KeyHash.hash_of c.args.hasher.now) _ c.args.start c.args.end _ _
-              (omega (arith, long, c.requires.some)) c.requires.in_range,
-        ),
-      ),
-    )
 
 pub returns-then-len-le-COUNTED_TARGETS-clause-room : goal.returns-then-len-le-COUNTED_TARGETS-clause-room
 returns-then-len-le-COUNTED_TARGETS-clause-room g c =
@@ -49,28 +34,9 @@ returns-then-len-le-COUNTED_TARGETS-clause-others g c =
     others_in c.args.current.now r.new.current c.args.start c.args.end (c.args.start + length c.count_targets.new.counts)
     (omega (arith, long, c.requires.some, c.count_targets.auto.counts)) r.ensures.others
 
-pub count_targets-requires-2 : goal.count_targets-requires-2
-count_targets-requires-2 g c =
-    let n : ℕ = c.args.end - c.args.start in
-    let zeros : c.deref_mut.result.now ≡ replicate n 0 = c.deref_mut.ensures.value ∙
-    c.in-Ok.ensures.items_if_clones_equal (λ y h. h) in (
-      search rules,
-      (
-        search rules,
-        (
-          zeros_each n _ zeros,
-          range_as (g.H.KeyHash.hash_of c.args.hasher.now) _ c.args.start c.args.end _ _
-              (omega (arith, zeros_len n _ zeros, c.requires.some)) c.requires.in_range,
-        ),
-      ),
-    )
-
 pub returns-clause-room : goal.returns-clause-room
 returns-clause-room g c =
-    let n : ℕ = c.args.end - c.args.start in
-    let zeros : c.deref_mut.result.now ≡ replicate n 0 = c.deref_mut.ensures.value ∙
-    c.in-Ok.ensures.items_if_clones_equal (λ y h. h) in
-    let long = c.count_targets-2.auto.counts ∙ zeros_len n _ zeros in
+    let long = c.count_targets-2.auto.counts ∙ ap length c.deref_mut.ensures.value ∙ c.in-Ok.ensures.len in
     let same : c.deref.result.now ≡ c.count_targets-2.new.counts = c.deref.ensures.value ∙ take_at _
     _ _ (c.count_targets-2.auto.counts ∙ c.deref_mut.ensures.len) in
     let r = c.reserve_each-2 in
@@ -85,10 +51,7 @@ returns-clause-room g c =
 
 pub returns-clause-others : goal.returns-clause-others
 returns-clause-others g c =
-    let n : ℕ = c.args.end - c.args.start in
-    let zeros : c.deref_mut.result.now ≡ replicate n 0 = c.deref_mut.ensures.value ∙
-    c.in-Ok.ensures.items_if_clones_equal (λ y h. h) in
-    let long = c.count_targets-2.auto.counts ∙ zeros_len n _ zeros in
+    let long = c.count_targets-2.auto.counts ∙ ap length c.deref_mut.ensures.value ∙ c.in-Ok.ensures.len in
     let same : c.deref.result.now ≡ c.count_targets-2.new.counts = c.deref.ensures.value ∙ take_at _
     _ _ (c.count_targets-2.auto.counts ∙ c.deref_mut.ensures.len) in
     let r = c.reserve_each-2 in

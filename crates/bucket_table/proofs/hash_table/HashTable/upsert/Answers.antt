@@ -1,4 +1,3 @@
-use Rattle.bucket_table.proofs.Words.{rules}
 use Rattle.bucket_table.specs.declared.arrays.side.Side.TheVariants.{Current}
 use Rattle.bucket_table.proofs.Map.Upserting.{found_upserted}
 use Rattle.bucket_table.proofs.hash_table.HashTable.upsert.Goals as goal
@@ -8,12 +7,7 @@ returns-in-Some-clause-arrays g c =
     let (left, put, is) = c.upsert_at.ensures.bucket in
     found_upserted g.K.PartialEq.eq g.row.TYPE c.hash-hash.result (g.H.KeyHash.hash_of c.args.self.now.hasher c.args.key)
     (g.G.Generation.keeps c.args.generation.now) c.args.key c.args.value c.args.self.now c.args.self.now c.upsert_at.new.self
-    Current c.in-Some.index c.upsert_at.result left c.hash-hash.ensures (c.in-Some.ensures c.args.rule) put is
-
-pub upsert_at-requires : goal.upsert_at-requires
-upsert_at-requires g c =
-    let found = c.in-Some.ensures c.args.rule in
-    (search rules, (found.locked, (c.hash-hash.ensures, found.home)))
+    Current c.in-Some.index c.upsert_at.result left c.hash-hash.ensures (c.in-Some.ensures.found c.args.rule) put is
 
 pub returns-in-Some-short_home-clause-arrays : goal.returns-in-Some-short_home-clause-arrays
 returns-in-Some-short_home-clause-arrays g c =
@@ -21,9 +15,4 @@ returns-in-Some-short_home-clause-arrays g c =
     let (left, put, is) = done.ensures.bucket in
     found_upserted g.K.PartialEq.eq g.row.TYPE c.hash-hash.result (g.H.KeyHash.hash_of c.args.self.now.hasher c.args.key)
     (g.G.Generation.keeps c.args.generation.now) c.args.key c.args.value c.args.self.now c.args.self.now done.new.self
-    Current c.in-Some-short_home.index done.result left c.hash-hash.ensures (c.in-Some-short_home.ensures c.args.rule) put is
-
-pub upsert_at-requires-in-Some-short_home : goal.upsert_at-requires-in-Some-short_home
-upsert_at-requires-in-Some-short_home g c =
-    let found = c.in-Some-short_home.ensures c.args.rule in
-    (search rules, (found.locked, (c.hash-hash.ensures, found.home)))
+    Current c.in-Some-short_home.index done.result left c.hash-hash.ensures (c.in-Some-short_home.ensures.found c.args.rule) put is
