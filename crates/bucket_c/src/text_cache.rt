@@ -61,7 +61,7 @@ pub extern "C" fn bucket_text_cache_put(
         handle.old.held.table result handle.new.held.table }
 {
     on_table!(handle, alloc, TextCache(cache) =>
-        texts::put(cache, alloc, key, value, gone, len, before))
+        texts::put(cache, key, value, gone, len, before))
 }
 
 /// Inserts a pair if its key is absent, and outputs the evicted pair, if any; else replaces the
@@ -85,7 +85,7 @@ pub extern "C" fn bucket_text_cache_upsert(
         handle.old.held.table result handle.new.held.table }
 {
     on_table!(handle, alloc, TextCache(cache) =>
-        texts::upsert(cache, alloc, key, value, gone, len, before))
+        texts::upsert(cache, key, value, gone, len, before))
 }
 
 /// Outputs the value under a key, and touches its pair.

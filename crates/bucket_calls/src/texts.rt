@@ -8,14 +8,12 @@ use crate::caches;
 use crate::codes::{NO_MEMORY, PRESENT};
 use crate::seed::SeededHash;
 use collections::hash_cache::HashCache;
-use std::alloc::Global;
 use std::mem::replace;
 
 /// Inserts a pair if its key is absent, and outputs the evicted pair, if any.
 #[tactic(auto, unfolding(crate::specs::Texts::PutsText))]
 pub fn put(
     cache: &mut HashCache<Vec<u8>, u64, SeededHash>,
-    alloc: Global,
     key: &[u8],
     value: u64,
     bytes: &mut [u8],
@@ -29,7 +27,7 @@ pub fn put(
     if cache.contains(key) {
         return PRESENT;
     }
-    match copy_of(alloc, key) {
+    match copy_of(cache.allocator(), key) {
         Ok(own) => caches::put_text(cache, own, value, bytes, len, before),
         Err(_) => NO_MEMORY,
     }
@@ -40,7 +38,6 @@ pub fn put(
 #[tactic(auto, unfolding(crate::specs::Texts::UpsertsTextInto))]
 pub fn upsert(
     cache: &mut HashCache<Vec<u8>, u64, SeededHash>,
-    alloc: Global,
     key: &[u8],
     value: u64,
     bytes: &mut [u8],
@@ -60,7 +57,7 @@ pub fn upsert(
             None => unreachable!(),
         };
     }
-    match copy_of(alloc, key) {
+    match copy_of(cache.allocator(), key) {
         Ok(own) => caches::upsert_text(cache, own, value, bytes, len, before),
         Err(_) => NO_MEMORY,
     }

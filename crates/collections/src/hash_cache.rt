@@ -142,6 +142,14 @@ impl<K: Eq, V, H: KeyHash<K>> HashCache<K, V, H> {
         self.table.hasher()
     }
 
+    /// Returns the allocator, which serves all slots of the cache.
+    ///
+    /// O(1). Like the kit's `HashMap::allocator`.
+    pub fn allocator(&self) -> Global {
+        self.room.fact_fits();
+        self.table.allocator()
+    }
+
     /// Returns the number of pairs, or 2^64 - 1 if there are more. It is at most the number of
     /// slots in the arrays plus the number of pairs in their overflow chains. The current array has
     /// no more slots than the maximum.

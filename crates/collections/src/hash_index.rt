@@ -117,6 +117,14 @@ impl<K: Eq, V, H: KeyHash<K>> HashIndex<K, V, H> {
         self.table.hasher()
     }
 
+    /// Returns the allocator, which serves all slots of the index.
+    ///
+    /// O(1). Like the kit's `HashMap::allocator`.
+    pub fn allocator(&self) -> Global {
+        self.room.fact_fits();
+        self.table.allocator()
+    }
+
     /// Returns the number of pairs without tombstones, or 2^64 - 1 if there are more.
     ///
     /// O(1). scc: `HashIndex::len`.

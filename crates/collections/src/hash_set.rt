@@ -75,6 +75,7 @@ impl<K: Eq, H: KeyHash<K>> HashSet<K, H> {
     /// Returns `true` if the set contains `key`, a key or a form of one.
     ///
     /// Moves no pairs and allocates nothing. O(1) expected. scc: `HashSet::contains_sync`.
+    #[inline(always)]
     pub fn contains<Q: KeyForm<K, H>>(&self, key: Q) -> bool
         ensures { result ≡ contains_by (Q.stands_for key) self.now }
     {
@@ -184,6 +185,7 @@ impl<K: Eq + Drop, H: KeyHash<K>> HashSet<K, H> {
     /// contains none. The key is returned.
     ///
     /// O(1) expected, plus any resize. scc: `HashSet::insert_sync`; std's is `insert`.
+    #[inline(always)]
     pub fn insert_new(&mut self, key: K) -> Result<(), NotInserted<K, ()>>
         ensures map { Inserts K.eq key tt self.old result self.new }
         ensures slots { GrowsSlots H.hash_of key self.old self.new }
@@ -197,6 +199,7 @@ impl<K: Eq + Drop, H: KeyHash<K>> HashSet<K, H> {
     ///
     /// Never fails. O(1) expected, plus any resize. scc: `HashSet::remove_sync`; std's
     /// `HashSet::take`.
+    #[inline(always)]
     pub fn take<Q: KeyForm<K, H>>(&mut self, key: Q) -> Option<K>
         ensures set { SetRemoves K.eq (Q.stands_for key) self.old result self.new }
         ensures slots { LosesSlots (is_some result) self.old self.new }

@@ -18,6 +18,7 @@ impl<K: Eq, H: KeyHash<K>> HashSet<K, H> {
     /// Returns the set's own key that matches `key`, a key or a form of one; `None` if absent.
     ///
     /// Moves no pairs and allocates nothing. O(1) expected. std: `HashSet::get`.
+    #[inline(always)]
     pub fn get<Q: KeyForm<K, H>>(&self, key: Q) -> Option<&K>
         ensures key { option_copied result ≡ key_by (Q.stands_for key) self.now }
         ensures same_key { IfSome result (λ own. IsTrue (Q.stands_for key own.now)) }
@@ -39,6 +40,7 @@ impl<K: Eq + Drop, H: KeyHash<K>> HashSet<K, H> {
     /// Allocation failure: the set contains no equal key, and the key is returned.
     ///
     /// O(1) expected, plus any resize. std: `HashSet::insert`.
+    #[inline(always)]
     pub fn insert(&mut self, key: K) -> Result<bool, AllocFailed<K>>
         ensures set { SetAdds K.eq key self.old result self.new }
         ensures slots { GrowsSlots H.hash_of key self.old self.new }
@@ -54,6 +56,7 @@ impl<K: Eq + Drop, H: KeyHash<K>> HashSet<K, H> {
     /// Drops the key that matches `key`, a key or a form of one, and returns whether there was one.
     ///
     /// Never fails. O(1) expected, plus any resize. std: `HashSet::remove`.
+    #[inline(always)]
     pub fn remove<Q: KeyForm<K, H>>(&mut self, key: Q) -> bool
         ensures set { TakesOut K.eq (Q.stands_for key) self.old result self.new }
         ensures slots { LosesSlots result self.old self.new }
