@@ -70,8 +70,10 @@ template <class Map, class K> const std::uint64_t *found(const Map &map, const K
     }
 }
 
-template <class Map, class K>
-void course(const std::string &name, Map map, const std::vector<K> &there, const std::vector<K> &others) {
+// Times calls of a map, and a loop that copies its pairs to another one. `empty` makes both.
+template <class Empty, class K>
+void course(const std::string &name, Empty empty, const std::vector<K> &there, const std::vector<K> &others) {
+    auto map = empty(), copy = empty();
     time_of(name + " 1 insert", there, [&](const K &key) { return map.try_emplace(key, 1u).second; });
     time_of(name + " 2 hit", there, [&](const K &key) { return *found(map, key); });
     time_of(name + " 3 miss", others, [&](const K &key) { return found(map, key) == nullptr; });
@@ -83,18 +85,24 @@ void course(const std::string &name, Map map, const std::vector<K> &there, const
         ++at;
         return sum;
     });
-    time_of(name + " 6 erase", there, [&](const K &key) { return map.erase(key); });
+    at = map.begin();
+    time_of(name + " 6 copy by a loop", there, [&](const K &) {
+        bool is_new = copy.try_emplace(at->first, at->second).second;
+        ++at;
+        return is_new;
+    });
+    time_of(name + " 7 erase", there, [&](const K &key) { return map.erase(key); });
 }
 
 template <class K> void courses(const std::string &of, const std::vector<K> &there, const std::vector<K> &others) {
-    course(of + " bucket::map", bucket::map<K, std::uint64_t>(), there, others);
-    course(of + " bucket::map, fixed seed", bucket::map<K, std::uint64_t>(bucket::fixed_seed), there, others);
-    course(of + " std::unordered_map", std::unordered_map<K, std::uint64_t>(), there, others);
+    course(of + " bucket::map", [] { return bucket::map<K, std::uint64_t>(); }, there, others);
+    course(of + " bucket::map, fixed seed", [] { return bucket::map<K, std::uint64_t>(bucket::fixed_seed); }, there, others);
+    course(of + " std::unordered_map", [] { return std::unordered_map<K, std::uint64_t>(); }, there, others);
 #if defined(HAS_ROBIN_MAP)
-    course(of + " tsl::robin_map", tsl::robin_map<K, std::uint64_t>(), there, others);
+    course(of + " tsl::robin_map", [] { return tsl::robin_map<K, std::uint64_t>(); }, there, others);
 #endif
 #if defined(HAS_FLAT_HASH_MAP)
-    course(of + " absl::flat_hash_map", absl::flat_hash_map<K, std::uint64_t>(), there, others);
+    course(of + " absl::flat_hash_map", [] { return absl::flat_hash_map<K, std::uint64_t>(); }, there, others);
 #endif
 }
 

@@ -60,6 +60,11 @@ def loops(kind, keys, asked, absent):
     def copy():
         made.copy()
 
+    def copy_by_loop():
+        other = kind()
+        for key, value in made.items():
+            other[key] = value
+
     def pop():
         for key in asked:
             made.pop(key)
@@ -74,6 +79,7 @@ def loops(kind, keys, asked, absent):
         "in": is_in,
         "items": items,
         "copy": copy,
+        "copy by a loop": copy_by_loop,
         "pop and []=": pop,
     }
 
@@ -84,7 +90,7 @@ def compare(name, keys, absent, rounds):
     ours, theirs = loops(bucket.Map, keys, asked, absent), loops(dict, keys, asked, absent)
     for call in ours:
         one, other = best(theirs[call], len(keys), rounds), best(ours[call], len(keys), rounds)
-        print(f"{name:5} {len(keys):9,} {call:12} dict {other and one:8.1f}  Map {other:8.1f}  {other / one:5.2f} times")
+        print(f"{name:5} {len(keys):9,} {call:14} dict {other and one:8.1f}  Map {other:8.1f}  {other / one:5.2f} times")
 
 
 def compare_caches(rounds):

@@ -77,10 +77,14 @@ fn ours(times: &mut Times, who: &str, seed: Seed, there: &[u64], others: &[u64])
         *value
     });
     times.once(format!("{who}: a pair of iter"), there.len(), || map.iter().map(|(key, value)| key ^ value).sum());
+    times.once(format!("{who}: copy by a loop"), there.len(), || {
+        let mut copy = Map::with_seed(seed);
+        map.iter().filter(|(key, value)| copy.insert(**key, **value).unwrap().is_none()).count() as u64
+    });
     times.add(format!("{who}: remove"), there, |key| map.remove(key).unwrap_or(1));
 }
 
-fn stds<S: BuildHasher + Default>(times: &mut Times, who: &str, there: &[u64], others: &[u64]) {
+fn stds<S: BuildHasher + Clone + Default>(times: &mut Times, who: &str, there: &[u64], others: &[u64]) {
     let mut map: HashMap<u64, u64, S> = HashMap::default();
     times.add(format!("{who}: insert"), there, |key| map.insert(*key, *key).is_none().into());
     times.add(format!("{who}: get, present"), there, |key| map.get(key).copied().unwrap_or(1));
@@ -92,6 +96,10 @@ fn stds<S: BuildHasher + Default>(times: &mut Times, who: &str, there: &[u64], o
         *value
     });
     times.once(format!("{who}: a pair of iter"), there.len(), || map.iter().map(|(key, value)| key ^ value).sum());
+    times.once(format!("{who}: copy by a loop"), there.len(), || {
+        let mut copy = HashMap::with_hasher(map.hasher().clone());
+        map.iter().filter(|(key, value)| copy.insert(**key, **value).is_none()).count() as u64
+    });
     times.add(format!("{who}: remove"), there, |key| map.remove(key).unwrap_or(1));
 }
 
