@@ -2,10 +2,9 @@
 //! for writing. A short array, of at most four buckets, has no parts: one vector holds its buckets,
 //! which are all initialized at once.
 //!
-//! Model: the list of the buckets. Invariant (`AreBuckets`): the length is stored. Each part has
-//! the number of buckets that the stored bits give. Beside the parts are an empty bucket and a
-//! killed one; a bucket that isn't initialized reads as one of these. A short array has its buckets
-//! in their place.
+//! Model: the list of the buckets. Invariant (`AreBuckets`): the length is stored, and each part
+//! has the number of buckets that the stored bits give. Beside the parts are an empty bucket and a
+//! killed one, which stand for those that aren't initialized; a short array has its buckets there.
 ghost use Rattle.std.specs.Prelude.{◌≡◌, ◌≢◌, ℕ, ◌+◌, ◌-◌, ◌<◌, ◌≤◌, ◌^◌, ◌%◌, [], Some, true};
 ghost use Rattle.std.specs.Prelude.{◌↔◌, IfOk, IfSome, IsTrue, length, option_map, replicate};
 ghost use Rattle.std.specs.Prelude.{slice_set};
