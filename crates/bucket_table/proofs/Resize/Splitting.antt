@@ -1,12 +1,10 @@
 -- Doubling the slots of a table for a home that has as many pairs as own slots.
-use Rattle.bucket_table.proofs.Words.{ArraysView, BucketView, Err, IsHome, IsLength, KeepsArrays, List, Result, WorksUnits, ap, arith}
-use Rattle.bucket_table.proofs.Words.{bucket_at, length, pairs_in, refl, subst, sym, ℕ, ◌/◌, ◌∙◌, ◌≡◌, ◌≤◌}
+use Rattle.bucket_table.proofs.Words.{ArraysView, BucketView, IsHome, IsLength, KeepsArrays, List, WorksUnits, ap, arith, bucket_at, inl}
+use Rattle.bucket_table.proofs.Words.{inr, length, pairs_in, subst, sym, ℕ, ◌/◌, ◌<◌, ◌∙◌, ◌≡◌, ◌≤◌, ◌⊎◌}
 use Rattle.bucket_slots.specs.Homes.{Meets}
 use Rattle.bucket_slots.proofs.CallerLemmas.{homes_meet, one_source, scales}
-use Rattle.bucket_table.specs.Map.Preparing.{HomeNeedsMemory, IsMissing}
+use Rattle.bucket_table.specs.Map.Preparing.{HomeNeedsMemory, IsReady}
 use Rattle.bucket_table.specs.Resize.Overfull.{SplitsHome}
-use Rattle.bucket_table.specs.declared.arrays.Missing.{Missing}
-use Rattle.bucket_table.specs.declared.arrays.Missing.TheVariants.{Memory, Nothing}
 
 module _ {K V : Type 0} (hash : ℕ) (old doubled : ArraysView K V) (is : SplitsHome hash old doubled) where
   -- the old array has the buckets
@@ -49,10 +47,11 @@ module _ {K V : Type 0} (hash : ℕ) (old doubled : ArraysView K V) (is : Splits
             subst (λ (k : ℕ). length (pairs_in (bucket_at doubled.linked k)) ≤ 32) same few;
       })
 
-  -- so a writer's bucket is found
-  pub never_missing : (new : ArraysView K V) → IsLength (length doubled.linked) → IsLength (length doubled.current)
-      → KeepsArrays doubled new → WorksUnits 1 (IsHome (length new.current) hash) doubled new → (missing : Missing)
-      → IsMissing missing doubled
-      → (◌≡◌ {A = Result (Unit {0}) Missing} (Err missing) (Err Memory) → HomeNeedsMemory hash doubled new) → ⊥
-  never_missing new linked current kept units Nothing none wanted = omega (arith, none, current.at_least)
-  never_missing new linked current kept units Memory is wanted = split_fetches new linked current kept units (wanted refl)
+  -- so it is ready once a unit was worked and its source moved
+  pub split_ready : (new : ArraysView K V) → IsLength (length doubled.linked) → IsLength (length doubled.current)
+      → KeepsArrays doubled new → WorksUnits 1 (IsHome (length new.current) hash) doubled new
+      → (0 < length new.current → IsReady new hash ⊎ HomeNeedsMemory hash doubled new) → IsReady new hash
+  split_ready new linked current kept units home = elim (home (omega (arith, current.at_least, kept.current_len))) [
+    | inl ready ↦ ready
+    | inr needs ↦ absurd (split_fetches new linked current kept units needs)
+  ]

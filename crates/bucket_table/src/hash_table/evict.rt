@@ -129,22 +129,24 @@ impl<K: Eq + Drop, V: Drop, H: KeyHash<K>, L: LruList + Drop, const TYPE: u8> Ha
     /// Doubles the slots for the home of a hash, which must be ready, if it has as many pairs as
     /// own slots, there is no old array, and twice the slots do not exceed the maximum. The home is
     /// then ready again. If allocation fails, nothing changes.
+    #[inline(always)]
     fn split_home(&mut self, hash: u64)
         requires ready { IsReady self.old.arrays hash }
         ensures map { KeepsPairs (state_of TYPE self.old) (state_of TYPE self.new) }
         ensures ready { IsReady self.new.arrays hash }
         ensures split { SplitsReady TYPE hash self.old self.new }
     {
+        if self.roomy_home(hash).is_some() {
+            return;
+        }
         let Ok(true) = self.try_split(hash) else {
             return;
         };
-        match self.fetch_home(hash) {
-            Ok(()) => {}
-            Err(_) => unreachable!(),
-        }
+        let _ = self.fetch_home(hash);
     }
 
     /// Doubles the slots, if the home of a hash may be split, and returns whether it did.
+    #[inline(never)]
     fn try_split(&mut self, hash: u64) -> Result<bool, AllocError>
         ensures split { TriesSplit hash self.old.arrays result self.new.arrays }
         ensures map { KeepsPairs (state_of TYPE self.old) (state_of TYPE self.new) }

@@ -1,16 +1,17 @@
 use Rattle.bucket_table.proofs.Words.{Ok, ap, inr}
 use Rattle.bucket_table.specs.Map.MapState.{state_of}
 use Rattle.bucket_table.proofs.Scripts.CallSteps.{then_kept}
-use Rattle.bucket_table.proofs.Resize.Splitting.{never_missing}
+use Rattle.bucket_table.proofs.Resize.Splitting.{split_ready}
 use Rattle.bucket_table.proofs.hash_table.HashTable.split_home.Goals as goal
 
-pub unreachable-requires : goal.unreachable-requires
-unreachable-requires g c =
+pub returns-clause-ready : goal.returns-clause-ready
+returns-clause-ready g c =
     let e = c.in-Ok-true.ensures in
     let splits = rw c.in-Ok-true.field-0-test at e.split in
     let long = e.long (ap Ok c.in-Ok-true.field-0-test) in
-    never_missing c.args.hash c.args.self.now.arrays c.try_split.new.self.arrays splits c.fetch_home.new.self.arrays long.0 long.1
-    c.fetch_home.ensures.prepared.kept c.fetch_home.ensures.prepared.units c.in-Err.field-0 c.in-Err.ensures.missing c.in-Err.ensures.wanted
+    let done = c.fetch_home.ensures.prepared in
+    split_ready c.args.hash c.args.self.now.arrays c.try_split.new.self.arrays splits c.fetch_home.new.self.arrays long.0 long.1
+    done.kept done.units done.home
 
 pub returns-clause-map : goal.returns-clause-map
 returns-clause-map g c =
