@@ -15,6 +15,7 @@ mod old_array;
 mod pairs;
 mod rehash;
 mod relocate;
+mod reserve;
 mod resize;
 mod row;
 mod sampling;
@@ -226,10 +227,7 @@ impl<K, V, L: LruList, const TYPE: u8> Arrays<K, V, L, TYPE> {
             Side::Current => self.array(),
             Side::Old => self.linked_array(),
         };
-        match array {
-            Some(array) => array,
-            None => unreachable!(),
-        }
+        array.unwrap()
     }
 
     /// Returns the index of a hash's home in the current array.

@@ -2,8 +2,7 @@
 //!
 //! Ports `relocate_bucket` of scc's `src/hash_table.rs`.
 ghost use Rattle.std.specs.Prelude.{false, ◌≡◌, ◌+◌, ◌<◌, ◌≤◌, true, IsOk, OnOk, OnErr, length, []};
-ghost use Rattle.std.specs.Prelude.{ℕ, IfNone, IfOk, IfSome, IsTrue, None, Some, replicate};
-ghost use Rattle.std.specs.Prelude.{slice_index, take};
+ghost use Rattle.std.specs.Prelude.{IfNone, IfSome, IsTrue, None, Some, replicate, take};
 ghost use Rattle.bucket_slots.specs.ArrayView.{bucket_at};
 ghost use Rattle.bucket_slots.specs.Homes.{IsInRange};
 ghost use Rattle.bucket_table.specs.Views.ArraysView.{ArePlaced};
@@ -13,18 +12,16 @@ ghost use Rattle.bucket_table.specs.Layout.Landings.{MoveInOrder, landings_with}
 ghost use Rattle.bucket_table.specs.Rehash.Rehashing.{IsUnmoved, RelocatesAt};
 ghost use Rattle.bucket_table.specs.Rehash.Units.{KillsOnly, NeedsNoMemory, SpendsSome};
 ghost use Rattle.bucket_table.specs.Rehash.Units.{NeedsMemory, WorksRange};
-ghost use Rattle.std.specs.List.{All};
 ghost use Rattle.bucket_slots.specs.BucketView.{BucketView, pairs_in, slot_in};
 ghost use Rattle.bucket_slots.specs.Recency.{order_and_zeros};
-ghost use Rattle.bucket_slots.specs.Reserving.{free_len_in};
 ghost use Rattle.bucket_slots.specs.Slots.{is_live, live_pair};
 ghost use Rattle.bucket_table.specs.Layout.Moving.{AreTargets, CanMoveInto, IsBound, MovesHome};
 ghost use Rattle.bucket_table.specs.Rehash.Carrying.{WentInOrder};
-ghost use Rattle.bucket_table.specs.Rehash.Relocation.{AreHome, AreTwoArrays, HasRoomFor};
-ghost use Rattle.bucket_table.specs.Rehash.Relocation.{IsRelocated, IsWay, KeepsEntries};
-ghost use Rattle.bucket_table.specs.Rehash.Relocation.{KeepsOthers, MovesInto, home_of, homed_len};
+ghost use Rattle.bucket_table.specs.Rehash.Relocation.{AreHome, AreTwoArrays, IsRelocated, IsWay};
+ghost use Rattle.bucket_table.specs.Rehash.Relocation.{KeepsEntries, MovesInto};
 
 use super::Arrays;
+use super::reserve::make_room;
 use super::side::current_in;
 use crate::capacity::from_index_to_range;
 use crate::key_hash::KeyHash;
@@ -84,9 +81,6 @@ impl<K: Eq + Drop, V: Drop, L: LruList + Drop, const TYPE: u8> Arrays<K, V, L, T
         true
     }
 }
-
-/// The greatest number of targets for which pairs are counted without allocating.
-const COUNTED_TARGETS: usize = 8;
 
 /// Where the pair of an own slot has moved: the index of a bucket, and an own slot of it.
 #[derive(Clone, Copy)]
@@ -166,134 +160,6 @@ fn targets_of<K: Eq, V, H: KeyHash<K>, L: LruList, const TYPE: u8>(
     }
     let _len = linked.len();
     Some(from_index_to_range(from, current.len(), index))
-}
-
-/// Makes room for the pairs of a bucket of an array of `from` buckets in its targets, which are the
-/// buckets from the first number of `targets` up to but not including the second, if there may be
-/// too little: that array is longer, or the bucket has more pairs than an empty target has own
-/// slots.
-#[inline(always)]
-fn make_room<K: Eq + Drop, V: Drop, H: KeyHash<K>, L: LruList, const TYPE: u8>(
-    alloc: Global,
-    hasher: &H,
-    current: &mut BucketArray<K, V, L, TYPE>,
-    source: &Bucket<K, V, L, TYPE>,
-    targets: (usize, usize),
-    from: usize,
-) -> Result<(), AllocError>
-    requires { IsBound (H.hash_of hasher.now) from targets.0 targets.1 source.now current.old }
-    ensures ready { OnOk result
-        (CanMoveInto (H.hash_of hasher.now) targets.0 targets.1 source.now current.new) }
-    ensures kept { KeepsEntries current.old current.new }
-    ensures others { KeepsOthers targets.0 targets.1 current.old current.new }
-    ensures never_refused { from ≤ length current.old
-        → length (pairs_in source.now) ≤ BUCKET_LEN
-        → IsOk result }
-{
-    current.fact_room();
-    let to = current.len();
-    if to < from || BUCKET_LEN < source.len() {
-        return reserve_targets(alloc, hasher, current, source, targets.0, targets.1);
-    }
-    Ok(())
-}
-
-/// Reserves a slot for each pair of a bucket in its home, which is one of the buckets from `start`
-/// up to but not including `end`.
-#[tactic(auto, using(crate::proofs::Moves::RoomMade::few_zeros))]
-fn reserve_targets<K: Eq + Drop, V: Drop, H: KeyHash<K>, L: LruList, const TYPE: u8>(
-    alloc: Global,
-    hasher: &H,
-    current: &mut BucketArray<K, V, L, TYPE>,
-    source: &Bucket<K, V, L, TYPE>,
-    start: usize,
-    end: usize,
-) -> Result<(), AllocError>
-    requires some { start < end }
-    requires within { end ≤ length current.old }
-    requires in_range { All
-        (λ pair. IsInRange start end (home_of (length current.old) (H.hash_of hasher.now pair.0)))
-        (pairs_in source.now) }
-    ensures room { OnOk result
-        (HasRoomFor (H.hash_of hasher.now) current.new (pairs_in source.now)) }
-    ensures kept { KeepsEntries current.old current.new }
-    ensures others { KeepsOthers start end current.old current.new }
-{
-    let len = end - start;
-    if len == 1 {
-        return reserve_each(current, start, &[source.len()]);
-    }
-    if len <= COUNTED_TARGETS {
-        let mut counts = [0; COUNTED_TARGETS];
-        let part = &mut counts[..len];
-        count_targets(hasher, current, source, start, part);
-        return reserve_each(current, start, part);
-    }
-    let Ok(mut counts) = zero_counts(alloc, len) else {
-        return Err(AllocError);
-    };
-    count_targets(hasher, current, source, start, &mut counts);
-    reserve_each(current, start, &counts)
-}
-
-/// Returns `len` counts of 0.
-#[inline(always)]
-fn zero_counts(alloc: Global, len: usize) -> Result<Vec<usize>, AllocError>
-    ensures len { IfOk result (λ counts. length counts.items ≡ len) }
-    ensures zeros { IfOk result (λ counts. (k : ℕ) → k < length counts.items
-        → slice_index counts.items k ≡ 0) }
-{
-    let Ok(counts) = vec![in alloc; 0; len] else {
-        return Err(AllocError);
-    };
-    Ok(counts)
-}
-
-/// Counts the pairs of a bucket by their homes, starting at bucket `start` of an array.
-fn count_targets<K: Eq, V, H: KeyHash<K>, L: LruList, const TYPE: u8>(
-    hasher: &H,
-    current: &BucketArray<K, V, L, TYPE>,
-    source: &Bucket<K, V, L, TYPE>,
-    start: usize,
-    counts: &mut [usize],
-)
-    requires zeros { (k : ℕ) → k < length counts.old → slice_index counts.old k ≡ 0 }
-    requires in_range { All
-        (λ pair. IsInRange start (start + length counts.old)
-        (home_of (length current.now) (H.hash_of hasher.now pair.0)))
-        (pairs_in source.now) }
-    ensures { (k : ℕ) → k < length counts.old → slice_index counts.new k
-        ≡ homed_len (H.hash_of hasher.now) (length current.now) (start + k) (pairs_in source.now) }
-{
-    let _most = source.len();
-    let mut at = EntryPtr::null();
-    'pairs: while at.find_next(source) {
-        let home = current.bucket_index(hasher.hash_one(at.key(source)));
-        counts[home - start] += 1;
-    }
-}
-
-/// Reserves slots in the buckets of an array from `start` on, in each bucket as many as `counts`
-/// says.
-fn reserve_each<K: Drop, V: Drop, L: LruList, const TYPE: u8>(
-    current: &mut BucketArray<K, V, L, TYPE>,
-    start: usize,
-    counts: &[usize],
-) -> Result<(), AllocError>
-    requires within { start + length counts.now ≤ length current.old }
-    ensures room { OnOk result ((k : ℕ) → k < length counts.now
-        → slice_index counts.now k ≤ free_len_in (bucket_at current.new (start + k))) }
-    ensures kept { KeepsEntries current.old current.new }
-    ensures others { KeepsOthers start (start + length counts.now) current.old current.new }
-{
-    current.fact_room();
-    let _buckets = current.len();
-    'counts: for k in 0..counts.len() {
-        if let Err(refused) = current.bucket_mut(start + k).reserve_slots(counts[k]) {
-            return Err(refused);
-        }
-    }
-    Ok(())
 }
 
 /// Moves each pair of a bucket to its home in an array that has room for it, which is one of the

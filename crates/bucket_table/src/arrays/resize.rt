@@ -348,9 +348,7 @@ impl<K: Drop, V: Drop, L: LruList + Drop, const TYPE: u8> Arrays<K, V, L, TYPE> 
             return Err(AllocError);
         };
         let mut fresh = BucketArray::alloc(self.alloc, capacity)?;
-        let Some(array) = self.current.take() else {
-            unreachable!()
-        };
+        let array = self.current.take().unwrap();
         match OldArray::new(self.alloc, array, tickets) {
             Ok(mut old) => {
                 fresh.adopt_digests(self.alloc, old.array_mut());

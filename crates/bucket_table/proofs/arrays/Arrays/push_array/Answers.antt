@@ -7,7 +7,7 @@ use Rattle.bucket_table.proofs.arrays.Arrays.push_array.Goals as goal
 pub invariant_of-self : goal.invariant_of-self
 invariant_of-self g c =
     let maximum = ap (λ a. a.maximum) c.self.view_is in
-    let stood = ap (λ o. length (list_of o)) (sym c.in-Some.ensures.value) in
+    let stood = ap (λ o. length (list_of o)) (sym c.take.ensures.value ∙ c.unwrap-array.ensures) in
     let current = ap (λ a. length a.current) c.self.view_is in
     let tickets = ap (λ t. t.len) c.in-Ok.ensures in
     rw (c.adopt_digests.ensures.own, c.adopt_digests.ensures.other, c.array_mut.ensures.array, c.in-Ok-new.ensures.made)
@@ -23,6 +23,6 @@ returns-in-Ok-new-clause-pushed g c =
           c.requires.alone);
       fresh = c.in_ok-fresh.fresh;
       fresh_is = c.in_ok-fresh.ensures;
-      new_is = pushed_seen _ _ _ c.self.inside.current _ c.args.self.now c.in_ok-fresh.fresh c.in-Some.array c.in-Ok.tickets c.len.result
-          c.in-Some.ensures.value c.in-Ok.ensures c.len.ensures.value c.self.view_is;
+      new_is = pushed_seen _ _ _ c.self.inside.current _ c.args.self.now c.in_ok-fresh.fresh c.unwrap-array.result c.in-Ok.tickets c.len.result
+          (sym c.unwrap-array.ensures ∙ c.take.ensures.value) c.in-Ok.ensures c.len.ensures.value c.self.view_is;
     })

@@ -1,6 +1,6 @@
 use Rattle.bucket_table.proofs.Words.{arith, length, ◌<◌}
 use Rattle.bucket_table.proofs.Moves.RoomMade.{refused_reserving, reserving_first, reserving_next}
-use Rattle.bucket_table.proofs.arrays.relocate.reserve_each.Goals as goal
+use Rattle.bucket_table.proofs.arrays.reserve.reserve_each.Goals as goal
 
 pub counts-init : goal.counts-init
 counts-init g c = reserving_first c.args.start c.args.counts.now c.args.current.now

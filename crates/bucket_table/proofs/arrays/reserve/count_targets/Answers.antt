@@ -1,6 +1,6 @@
 use Rattle.bucket_table.proofs.Words.{arith, length, live_from_pair, live_not_free, rules, slot_in, ◌-◌, ◌<◌}
 use Rattle.bucket_table.proofs.Moves.CountingTargets.{counting_done, counting_first, counting_read, fewer_ahead, next_read}
-use Rattle.bucket_table.proofs.arrays.relocate.count_targets.Goals as goal
+use Rattle.bucket_table.proofs.arrays.reserve.count_targets.Goals as goal
 
 pub pairs-init : goal.pairs-init
 pairs-init g c =

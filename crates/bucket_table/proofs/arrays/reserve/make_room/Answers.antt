@@ -1,9 +1,9 @@
 use Rattle.bucket_table.proofs.Words.{arith, length, pairs_in, ◌≤◌}
 use Rattle.bucket_table.proofs.Moves.Relocating.{ready_reserved, ready_unreserved}
 use Rattle.bucket_table.proofs.Moves.RoomMade.{KeepsEntries-refl}
-use Rattle.bucket_table.proofs.arrays.relocate.make_room.Goals.{then-to-from-via-else-to-from+then-len-gt-BUCKET_LEN}
-use Rattle.bucket_table.proofs.arrays.relocate.make_room.Goals.{then-to-from-via-then-to-from}
-use Rattle.bucket_table.proofs.arrays.relocate.make_room.Goals as goal
+use Rattle.bucket_table.proofs.arrays.reserve.make_room.Goals.{then-to-from-via-else-to-from+then-len-gt-BUCKET_LEN}
+use Rattle.bucket_table.proofs.arrays.reserve.make_room.Goals.{then-to-from-via-then-to-from}
+use Rattle.bucket_table.proofs.arrays.reserve.make_room.Goals as goal
 
 pub returns-then-to-from-clause-ready : goal.returns-then-to-from-clause-ready
 returns-then-to-from-clause-ready g c =

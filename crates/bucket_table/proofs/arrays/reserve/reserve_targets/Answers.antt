@@ -1,7 +1,7 @@
 use Rattle.bucket_table.proofs.Words.{[], ap, arith, get_or, length, ℕ, ◌+◌, ◌-◌, ◌∙◌, ◌∷◌, ◌≡◌}
 use Rattle.std.proofs.lemmas.List.{take_at}
 use Rattle.bucket_table.proofs.Moves.RoomMade.{counted_one, others_in, part_len, room_made}
-use Rattle.bucket_table.proofs.arrays.relocate.reserve_targets.Goals as goal
+use Rattle.bucket_table.proofs.arrays.reserve.reserve_targets.Goals as goal
 
 pub returns-then-len-eq1-clause-room : goal.returns-then-len-eq1-clause-room
 returns-then-len-eq1-clause-room g c =
