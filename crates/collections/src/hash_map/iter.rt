@@ -115,6 +115,8 @@ impl<K: Eq, V, H: KeyHash<K>> HashMap<K, V, H> {
     /// once and has no slots; the hasher and the capacities stay. If the iterator is dropped early,
     /// the rest is dropped with it.
     ///
+    /// To fill the map again at once, call `try_reserve` first: it then allocates its slots once.
+    ///
     /// Allocates nothing and never fails. O(1); all steps together O(slots). std: `HashMap::drain`,
     /// which borrows the map and keeps its memory.
     pub fn drain(&mut self) -> Drain<K, V>

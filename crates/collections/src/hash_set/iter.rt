@@ -86,6 +86,8 @@ impl<K: Eq, H: KeyHash<K>> HashSet<K, H> {
     /// once and has no slots; the hasher and the capacities stay. If the iterator is dropped early,
     /// the rest is dropped with it.
     ///
+    /// To fill the set again at once, call `try_reserve` first: it then allocates its slots once.
+    ///
     /// Allocates nothing and never fails. O(1); all steps together O(slots). std: `HashSet::drain`,
     /// which borrows the set and keeps its memory.
     pub fn drain(&mut self) -> Drain<K>
