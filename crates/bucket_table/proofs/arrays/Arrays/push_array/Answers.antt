@@ -23,6 +23,6 @@ returns-in-Ok-new-clause-pushed g c =
           c.requires.alone);
       fresh = c.in_ok-fresh.fresh;
       fresh_is = c.in_ok-fresh.ensures;
-      new_is = pushed_seen _ _ _ c.self.inside.current _ c.args.self.now c.in_ok-fresh.fresh c.unwrap-array.result c.in-Ok.tickets c.len.result
-          (sym c.unwrap-array.ensures ∙ c.take.ensures.value) c.in-Ok.ensures c.len.ensures.value c.self.view_is;
+      new_is = pushed_seen _ _ _ c.self.inside.current _ c.args.self.now c.in_ok-fresh.fresh c.unwrap-array.result c.in-Ok.tickets
+          c.len.result (sym c.unwrap-array.ensures ∙ c.take.ensures.value) c.in-Ok.ensures c.len.ensures.value c.self.view_is;
     })
