@@ -1,7 +1,7 @@
 //! What is done to the pair in a slot of a bucket of either side, for calls by key and locked
 //! buckets.
 ghost use Rattle.std.specs.Prelude.{◌≡◌, ◌≢◌, ◌%◌, ◌<◌, ℕ, Some, IsTrue, length};
-ghost use Rattle.bucket_slots.specs.BucketView.{BucketView, bucket_with_value, pairs_in, slot_in};
+ghost use Rattle.bucket_slots.specs.BucketView.{BucketView, pairs_in, slot_in};
 ghost use Rattle.bucket_slots.specs.Digested.{UpsertsIn};
 ghost use Rattle.bucket_slots.specs.Evicting.{slots_touched};
 ghost use Rattle.bucket_slots.specs.Marking.{slots_marked};
@@ -20,7 +20,6 @@ use super::{Arrays, Side};
 use crate::hash_table::NotInserted;
 use bucket_slots::bucket::{CACHE, EntryPtr, Generation, INDEX, KeyProbe};
 use bucket_slots::lru::LruList;
-use std::mem;
 
 impl<K, V, L: LruList, const TYPE: u8> Arrays<K, V, L, TYPE> {
     /// Returns the pair in a live slot.
@@ -48,25 +47,6 @@ impl<K, V, L: LruList, const TYPE: u8> Arrays<K, V, L, TYPE> {
             Side::Current => current_in(&mut self.current).touch(index, at),
             Side::Old => self.linked.array_mut().touch(index, at),
         }
-    }
-
-    /// Writes a value into a live slot, and returns the previous one.
-    #[inline(always)]
-    pub(crate) fn swap_slot(
-        &mut self,
-        side: Side,
-        index: usize,
-        at: &EntryPtr<K, V, TYPE>,
-        value: V,
-    ) -> V
-        requires within { index < length (buckets_on self.old side) }
-        requires live_slot { IsTrue (is_live (slot_in (bucket_on self.old side index) at.now)) }
-        ensures pair { (found : K)
-            × (live_pair (slot_in (bucket_on self.old side index) at.now) ≡ Some (found, result)) }
-        ensures arrays { self.new ≡ arrays_with self.old side index
-            (bucket_with_value (bucket_on self.old side index) at.now value) }
-    {
-        mem::replace(self.entry_of_mut(side, index, at).1, value)
     }
 
     /// Makes the pair in a live slot a tombstone. Returns the number of live pairs left in the

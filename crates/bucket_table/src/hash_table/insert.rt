@@ -26,6 +26,7 @@ use crate::hash_table::{HashTable, NotInserted, ResizeRule};
 use crate::key_hash::KeyHash;
 use bucket_slots::bucket::{EqProbe, Generation, KeyProbe};
 use bucket_slots::lru::LruList;
+use std::mem;
 
 impl<K: Eq + Drop, V: Drop, H: KeyHash<K>, L: LruList + Drop, const TYPE: u8> HashTable<
     K,
@@ -156,8 +157,7 @@ impl<K: Eq + Drop, V: Drop, H: KeyHash<K>, L: LruList + Drop, const TYPE: u8> Ha
             (bucket_with_value (bucket_on self.old.arrays spot.now.side spot.now.index) spot.now.at
             value) }
     {
-        self.arrays
-            .swap_slot(spot.side, spot.index, &spot.at, value)
+        mem::replace(self.entry_mut_at(spot).1, value)
     }
 
     /// Calls `change` with the pair with an equal key, with the value lent for writing, and returns
@@ -210,7 +210,7 @@ impl<K: Eq + Drop, V: Drop, H: KeyHash<K>, L: LruList + Drop, const TYPE: u8> Ha
     {
         match self.fetch_spot(hash, probe) {
             Some(spot) => {
-                let (key, value) = self.entry_mut_at(spot.side, spot.index, &spot.at);
+                let (key, value) = self.entry_mut_at(&spot);
                 Some(change(key, value))
             }
             None => None,

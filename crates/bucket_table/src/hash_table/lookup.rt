@@ -20,7 +20,7 @@ ghost use Rattle.bucket_table.specs.declared.hash_table.ResizeRule.TheVariants.{
 use crate::arrays::{Side, Spot};
 use crate::hash_table::{HashTable, ResizeRule};
 use crate::key_hash::KeyHash;
-use bucket_slots::bucket::{EntryPtr, EqProbe, KeyProbe};
+use bucket_slots::bucket::{EqProbe, KeyProbe};
 use bucket_slots::lru::LruList;
 
 impl<K: Eq, V, H: KeyHash<K>, L: LruList, const TYPE: u8> HashTable<K, V, H, L, TYPE> {
@@ -153,31 +153,28 @@ impl<K: Eq, V, H: KeyHash<K>, L: LruList, const TYPE: u8> HashTable<K, V, H, L, 
         self.arrays.entry_of(spot.side, spot.index, &spot.at)
     }
 
-    /// Lends the pair in a live slot of a bucket of one side, with its value for writing. What is
-    /// written to the value is in the table after the loan.
+    /// Lends the pair in a live slot, with its value for writing. What is written to the value is
+    /// in the table after the loan.
     ///
     /// O(blocks of the chain).
     #[inline(always)]
-    pub fn entry_mut_at(
-        &mut self,
-        side: Side,
-        index: usize,
-        at: &EntryPtr<K, V, TYPE>,
-    ) -> (&K, &mut V)
-        requires within { index < length (buckets_on self.old.arrays side) }
+    pub fn entry_mut_at(&mut self, spot: &Spot<K, V, TYPE>) -> (&K, &mut V)
+        requires within { spot.now.index < length (buckets_on self.old.arrays spot.now.side) }
         requires live_slot { IsTrue (is_live
-            (slot_in (bucket_on self.old.arrays side index) at.now)) }
+            (slot_in (bucket_on self.old.arrays spot.now.side spot.now.index) spot.now.at)) }
         ensures* writes_back { sem 𝓛
             (LendsSlot K.row V.row H.row L.row TYPE K.PartialEq H.KeyHash
             (record { KEEPS = L.KEEPS; listed = L.listed; IsTail = L.IsTail }) L.Default
-            self.entry side index at.now result.1) }
-        ensures pair { live_pair (slot_in (bucket_on self.old.arrays side index) at.now)
+            self.entry spot.now.side spot.now.index spot.now.at result.1) }
+        ensures pair { live_pair
+            (slot_in (bucket_on self.old.arrays spot.now.side spot.now.index) spot.now.at)
             ≡ Some (result.0.now, result.1.now) }
         ensures map { (value : V) → ChangesValue (state_of TYPE self.old)
             (result.0.now, result.1.now) value
-            (state_of TYPE (with_value self.old side index at.now value)) }
+            (state_of TYPE
+            (with_value self.old spot.now.side spot.now.index spot.now.at value)) }
     {
-        self.arrays.entry_of_mut(side, index, at)
+        self.arrays.entry_of_mut(spot.side, spot.index, &spot.at)
     }
 }
 
@@ -260,7 +257,7 @@ impl<K: Eq + Drop, V: Drop, H: KeyHash<K>, L: LruList + Drop, const TYPE: u8> Ha
         ensures fixed { P.matches probe.new ≡ P.matches probe.old }
     {
         match self.fetch_spot(hash, probe) {
-            Some(spot) => Some(self.entry_mut_at(spot.side, spot.index, &spot.at).1),
+            Some(spot) => Some(self.entry_mut_at(&spot).1),
             None => None,
         }
     }

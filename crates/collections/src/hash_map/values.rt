@@ -158,7 +158,7 @@ impl<K: Eq + Drop, V: Drop, H: KeyHash<K>> HashMap<K, V, H> {
         self.room.fact_fits();
         self.table.fact_sound();
         match self.table.spot_by(hash, &mut FormProbe::<Q, H>::new(key)) {
-            Some(spot) => self.table.entry_mut_at(spot.side, spot.index, &spot.at).1,
+            Some(spot) => self.table.entry_mut_at(&spot).1,
             None => unreachable!(),
         }
     }

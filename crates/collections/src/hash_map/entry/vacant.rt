@@ -13,7 +13,7 @@ use crate::hash_map::HashMap;
 use crate::hash_map::entry::VacantEntry;
 use crate::homes::fact_homes;
 use bucket_slots::bucket::MAP;
-use bucket_table::hash_table::{HashTable, ResizeRule, Side};
+use bucket_table::hash_table::{HashTable, ResizeRule, Side, Spot};
 use bucket_table::key_hash::KeyHash;
 use std::alloc::{AllocError, AllocFailed};
 
@@ -97,7 +97,7 @@ impl<K: Eq + Drop, V: Drop, H: KeyHash<K>> HashMap<K, V, H> {
             }
         };
         self.table.fact_sound();
-        Ok(self.table.entry_mut_at(side, index, &at).1)
+        Ok(self.table.entry_mut_at(&Spot { side, index, at }).1)
     }
 }
 
