@@ -101,19 +101,7 @@ impl<K: Eq, V, H: KeyHash<K>, L: LruList, const TYPE: u8> HashTable<K, V, H, L, 
         ensures absent { IfNone result
             (IsAbsent (λ own. K.eq own key.now) (pairs_of self.now.arrays)) }
     {
-        self.peek_hashed(key, self.hasher.hash_one(key))
-    }
-
-    /// Returns the pair with an equal key, given the key's hash, or `None` if the map has none.
-    #[inline(always)]
-    fn peek_hashed(&self, key: &K, hash: u64) -> Option<(&K, &V)>
-        requires own_hash { hash ≡ H.hash_of self.now.hasher key.now }
-        ensures found { IfSome result (λ pair.
-            IsThere (λ own. K.eq own key.now) (pairs_of self.now.arrays) (pair.0.now, pair.1.now)) }
-        ensures absent { IfNone result
-            (IsAbsent (λ own. K.eq own key.now) (pairs_of self.now.arrays)) }
-    {
-        self.peek_entry_by(hash, &mut EqProbe::new(key))
+        self.peek_entry_by(self.hash(key), &mut EqProbe::new(key))
     }
 
     /// Returns a pair whose key matches the probe, or `None` if the map has none. The probe must
@@ -206,7 +194,7 @@ impl<K: Eq + Drop, V: Drop, H: KeyHash<K>, L: LruList + Drop, const TYPE: u8> Ha
     {
         let hash = self.hasher.hash_one(key);
         let _ = self.fetch_home(hash);
-        match self.peek_hashed(key, hash) {
+        match self.peek_entry_by(hash, &mut EqProbe::new(key)) {
             Some((own, value)) => Some(reader(own, value)),
             None => None,
         }
