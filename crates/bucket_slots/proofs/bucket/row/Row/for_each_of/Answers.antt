@@ -24,10 +24,3 @@ returns-clause-calls g c =
     let calling = c.loop-called.invariant.1 in
     let none = ones-none c.loop-called.left (omega (arith, c.loop-called.invariant.2, c.loop-called-test.false)) in
     calling_done _ c.args.f.now c.loop-called.f c.args.self.now (rw none at calling)
-
-pub pair-requires : goal.pair-requires
-pair-requires g c = (
-  search rules,
-  named_filled c.args.self.now _ _ _ c.loop-called.invariant.1.names
-      c.lowest_bit-pos.ensures,
-)
