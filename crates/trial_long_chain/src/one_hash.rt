@@ -18,29 +18,53 @@ const REMOVED: (u64, u64) = (3_000, 5_000);
 pub(crate) fn come_and_go(rt: &HostRuntime) -> io::Result<()> {
     let counted = Rc::new(rt.alloc(), 0)?;
     let mut bucket = Counted::<MAP>::new(rt.alloc());
-    let (block, pos) = put_keys(&mut bucket, KEYS, &counted)?;
-    let first = match find(&bucket, FIRST) {
+    let last = put_keys(&mut bucket, KEYS, &counted)?;
+    print_places(rt, &bucket, last)?;
+    println!(rt; "{} found, {} walked", find_all(&bucket), walk(&bucket))?;
+    print!(rt; "{} removed: ", remove_most(&mut bucket))?;
+    print_left(rt, bucket.len(), &counted)?;
+    drop(bucket);
+    println!(rt; "dropped: {} value is left", Rc::strong_count(&counted))
+}
+
+/// Prints how many pairs there are, and where the first of the chain and the last one are.
+fn print_places(
+    rt: &HostRuntime,
+    bucket: &Counted<MAP>,
+    (block, pos): (usize, usize),
+) -> io::Result<()> {
+    let first = match find(bucket, FIRST) {
         Some(at) => at.block(),
         None => 0,
     };
     print!(rt; "{} pairs, key {FIRST} in block {first}, ", bucket.len())?;
-    println!(rt; "the last at {pos} in block {block}")?;
+    println!(rt; "the last at {pos} in block {block}")
+}
+
+/// Prints how many pairs and how many counted values are left.
+fn print_left(rt: &HostRuntime, pairs: usize, counted: &Rc<u64>) -> io::Result<()> {
+    println!(rt; "{pairs} pairs, {} values are left", Rc::strong_count(counted))
+}
+
+/// How many keys are found.
+fn find_all(bucket: &Counted<MAP>) -> u64 {
     let mut found = 0u64;
     for key in 0..KEYS {
-        found = found.wrapping_add(u64::from(find(&bucket, key).is_some()));
+        found = found.wrapping_add(u64::from(find(bucket, key).is_some()));
     }
-    println!(rt; "{found} found, {} walked", walk(&bucket))?;
+    found
+}
+
+/// Removes keys in both orders, and returns how many were there.
+fn remove_most(bucket: &mut Counted<MAP>) -> u64 {
     let mut removed = 0u64;
     for key in 0..REMOVED.0 {
-        removed = removed.wrapping_add(u64::from(remove_key(&mut bucket, key)));
+        removed = removed.wrapping_add(u64::from(remove_key(bucket, key)));
     }
     for key in (REMOVED.1..KEYS).rev() {
-        removed = removed.wrapping_add(u64::from(remove_key(&mut bucket, key)));
+        removed = removed.wrapping_add(u64::from(remove_key(bucket, key)));
     }
-    print!(rt; "{removed} removed: {} pairs, ", bucket.len())?;
-    println!(rt; "{} values are left", Rc::strong_count(&counted))?;
-    drop(bucket);
-    println!(rt; "dropped: {} value is left", Rc::strong_count(&counted))
+    removed
 }
 
 /// How many pairs a walk visits.
