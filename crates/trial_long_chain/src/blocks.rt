@@ -44,8 +44,10 @@ pub(crate) fn clear_them(rt: &HostRuntime) -> io::Result<()> {
     let mut bucket = reserved::<INDEX>(rt)?;
     let taken = bucket.clear_unreachable_entries(&());
     let (block, _) = put_keys(&mut bucket, KEYS, &counted)?;
-    print!(rt; "{BLOCKS} blocks cleared: {taken} own slots taken; ")?;
-    println!(rt; "the last of {KEYS} pairs is in block {block}")
+    println!(rt;
+        "{BLOCKS} blocks cleared: {taken} own slots taken; \
+        the last of {KEYS} pairs is in block {block}"
+    )
 }
 
 /// Returns a bucket with these blocks, whose slots are all free.

@@ -14,17 +14,26 @@ const FIRST: u64 = 32;
 /// Keys from the second on are removed in reverse order: each time the pair is in the head.
 const REMOVED: (u64, u64) = (3_000, 5_000);
 
-/// Puts the keys, finds and walks them, removes most of them, and drops the others with the bucket.
+/// Puts keys into a bucket and removes most of them, and drops the others with the bucket.
 pub(crate) fn come_and_go(rt: &HostRuntime) -> io::Result<()> {
     let counted = Rc::new(rt.alloc(), 0)?;
     let mut bucket = Counted::<MAP>::new(rt.alloc());
-    let last = put_keys(&mut bucket, KEYS, &counted)?;
-    print_places(rt, &bucket, last)?;
-    println!(rt; "{} found, {} walked", find_all(&bucket), walk(&bucket))?;
-    print!(rt; "{} removed: ", remove_most(&mut bucket))?;
-    print_left(rt, bucket.len(), &counted)?;
+    put_and_remove(rt, &mut bucket, &counted)?;
     drop(bucket);
     println!(rt; "dropped: {} value is left", Rc::strong_count(&counted))
+}
+
+/// Puts the keys, finds and walks them, and removes most of them.
+fn put_and_remove(
+    rt: &HostRuntime,
+    bucket: &mut Counted<MAP>,
+    counted: &Rc<u64>,
+) -> io::Result<()> {
+    let last = put_keys(bucket, KEYS, counted)?;
+    print_places(rt, bucket, last)?;
+    println!(rt; "{} found, {} walked", find_all(bucket), walk(bucket))?;
+    print!(rt; "{} removed: {} pairs, ", remove_most(bucket), bucket.len())?;
+    println!(rt; "{} values are left", Rc::strong_count(counted))
 }
 
 /// Prints how many pairs there are, and where the first of the chain and the last one are.
@@ -39,11 +48,6 @@ fn print_places(
     };
     print!(rt; "{} pairs, key {FIRST} in block {first}, ", bucket.len())?;
     println!(rt; "the last at {pos} in block {block}")
-}
-
-/// Prints how many pairs and how many counted values are left.
-fn print_left(rt: &HostRuntime, pairs: usize, counted: &Rc<u64>) -> io::Result<()> {
-    println!(rt; "{pairs} pairs, {} values are left", Rc::strong_count(counted))
 }
 
 /// How many keys are found.
