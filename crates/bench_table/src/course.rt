@@ -18,11 +18,10 @@ pub(crate) fn print_time(
 ) -> io::Result<()> {
     let nanoseconds = start.elapsed(rt)?.as_nanos();
     if prints_times {
-        println!(rt; "{name} {nanoseconds} {calls}")?;
+        println!(rt; "{name} {nanoseconds} {calls}")
     } else {
-        println!(rt; "{name} {calls}")?;
+        println!(rt; "{name} {calls}")
     }
-    Ok(())
 }
 
 /// Prints the cost of calls on a map that grows from nothing to an even number of pairs.
@@ -31,29 +30,70 @@ pub(crate) fn run_calls<M: Measured>(
     prints_times: bool,
     pairs: u64,
 ) -> io::Result<()> {
-    let twice = pairs.wrapping_mul(2);
     let before = resident_bytes(rt, prints_times)?;
     let mut map = M::with_room(rt.alloc(), 0)?;
+    run_growth(rt, prints_times, &mut map, pairs, before)?;
+    run_looks(rt, prints_times, &mut map, pairs)?;
+    run_walks(rt, prints_times, &mut map, pairs)?;
+    run_ends(rt, prints_times, &mut map, pairs)
+}
+
+/// Prints the cost of insertions into an empty map, and the bytes that it takes more than `before`.
+fn run_growth<M: Measured>(
+    rt: &HostRuntime,
+    prints_times: bool,
+    map: &mut M,
+    pairs: u64,
+    before: u64,
+) -> io::Result<()> {
     let start = Instant::now(rt)?;
-    require(insert_all(&mut map, 0, pairs) == pairs)?;
+    require(insert_all(map, 0, pairs) == pairs)?;
     print_time(rt, prints_times, "insert", start, pairs)?;
     let after = resident_bytes(rt, prints_times)?;
     if prints_times {
         println!(rt; "bytes {} {pairs}", after.saturating_sub(before))?;
     }
-    let start = Instant::now(rt)?;
-    require(find_all(&map, 0, pairs) == pairs)?;
-    print_time(rt, prints_times, "hit", start, pairs)?;
-    let start = Instant::now(rt)?;
-    require(miss_all(&map, pairs, twice) == pairs)?;
-    print_time(rt, prints_times, "miss", start, pairs)?;
-    let start = Instant::now(rt)?;
-    require(churn_all(&mut map, pairs) == pairs)?;
-    print_time(rt, prints_times, "churn", start, pairs)?;
-    run_ends(rt, prints_times, &mut map, pairs)
+    Ok(())
 }
 
-/// Prints the cost of walks, sweeps and removals on a map with the keys from `pairs` to twice that.
+/// Prints the cost of look-ups, and of removals that are each followed by an insertion, on a map
+/// with the keys below `pairs`. It then has those from `pairs` to twice that.
+fn run_looks<M: Measured>(
+    rt: &HostRuntime,
+    prints_times: bool,
+    map: &mut M,
+    pairs: u64,
+) -> io::Result<()> {
+    let start = Instant::now(rt)?;
+    require(find_all(map, 0, pairs) == pairs)?;
+    print_time(rt, prints_times, "hit", start, pairs)?;
+    let start = Instant::now(rt)?;
+    require(miss_all(map, pairs, pairs.wrapping_mul(2)) == pairs)?;
+    print_time(rt, prints_times, "miss", start, pairs)?;
+    let start = Instant::now(rt)?;
+    require(churn_all(map, pairs) == pairs)?;
+    print_time(rt, prints_times, "churn", start, pairs)
+}
+
+/// Prints the cost of walks on a map with the keys from `pairs` to twice that.
+fn run_walks<M: Measured>(
+    rt: &HostRuntime,
+    prints_times: bool,
+    map: &mut M,
+    pairs: u64,
+) -> io::Result<()> {
+    let wanted = sum_between(pairs, pairs.wrapping_mul(2));
+    let start = Instant::now(rt)?;
+    let sum = map.sum();
+    print_time(rt, prints_times, "walk", start, pairs)?;
+    require(sum == wanted)?;
+    let start = Instant::now(rt)?;
+    let sum = map.iterated();
+    print_time(rt, prints_times, "iter", start, pairs)?;
+    require(sum == wanted)
+}
+
+/// Prints the cost of removals and of a sweep on a map with the keys from `pairs` to twice that.
 fn run_ends<M: Measured>(
     rt: &HostRuntime,
     prints_times: bool,
@@ -61,14 +101,6 @@ fn run_ends<M: Measured>(
     pairs: u64,
 ) -> io::Result<()> {
     let twice = pairs.wrapping_mul(2);
-    let start = Instant::now(rt)?;
-    let sum = map.sum();
-    print_time(rt, prints_times, "walk", start, pairs)?;
-    require(sum == sum_between(pairs, twice))?;
-    let start = Instant::now(rt)?;
-    let sum = map.iterated();
-    print_time(rt, prints_times, "iter", start, pairs)?;
-    require(sum == sum_between(pairs, twice))?;
     let start = Instant::now(rt)?;
     require(remove_all(map, pairs, twice) == pairs)?;
     print_time(rt, prints_times, "remove", start, pairs)?;
@@ -104,28 +136,39 @@ pub(crate) fn run_single<M: Measured>(
     let mut times: Vec<u128> = Vec::with_capacity(rt.alloc(), pairs as usize)?;
     let mut map = M::with_room(rt.alloc(), 0)?;
     for key in 0..pairs {
-        let start = Instant::now(rt)?;
-        let came = map.put(key);
-        times.push(start.elapsed(rt)?.as_nanos())?;
-        require(came)?;
+        times.push(time_of_put(rt, &mut map, key)?)?;
     }
+    drop(map);
     times.sort_unstable();
+    print_single(rt, prints_times, &times)
+}
+
+/// Inserts a key, and returns how many nanoseconds that took.
+fn time_of_put<M: Measured>(rt: &HostRuntime, map: &mut M, key: u64) -> io::Result<u128> {
+    let start = Instant::now(rt)?;
+    let came = map.put(key);
+    let nanoseconds = start.elapsed(rt)?.as_nanos();
+    require(came)?;
+    Ok(nanoseconds)
+}
+
+/// Prints some of the times of single insertions, in ascending order.
+fn print_single(rt: &HostRuntime, prints_times: bool, times: &[u128]) -> io::Result<()> {
+    let len = times.len();
     if !prints_times {
-        println!(rt; "single {}", times.len())?;
-        return Ok(());
+        return println!(rt; "single {len}");
     }
-    println!(rt; "longest {} 1", slowest(&times, 1))?;
+    println!(rt; "longest {} 1", slowest(times, 1))?;
     println!(rt;
         "rarely {} 1",
-        slowest(&times, (times.len() / 10_000).saturating_add(1))
+        slowest(times, (len / 10_000).saturating_add(1))
     )?;
     for rank in [1, 10, 100, 1_000, 10_000, 100_000, 1_000_000] {
-        if rank < times.len() {
-            println!(rt; "rank{rank} {} 1", slowest(&times, rank))?;
+        if rank < len {
+            println!(rt; "rank{rank} {} 1", slowest(times, rank))?;
         }
     }
-    println!(rt; "median {} 1", slowest(&times, times.len() / 2))?;
-    Ok(())
+    println!(rt; "median {} 1", slowest(times, len / 2))
 }
 
 /// The time of a rank, 1 for the slowest, among times in ascending order; 0 if there is none.
