@@ -1,7 +1,7 @@
 -- What digests state of buckets, and how it holds after a change.
 use Rattle.bucket_slots.proofs.Words.{BucketView, IsMaskOf, List, SetsBit, Slot, Some, [], ap, arith, bit_and, bit_at, bit_at_and, byte_of}
 use Rattle.bucket_slots.proofs.Words.{cases_eq, cond, empty_bucket, false, free, get_or, get_or-map, get_or-set_other}
-use Rattle.bucket_slots.proofs.Words.{get_or-set_same, has_byte, is_free, is_marked, IsBucketOf, INDEX, IsLowest, IsTrue, Place}
+use Rattle.bucket_slots.proofs.Words.{get_or-set_same, has_byte, is_free, is_marked, IsBucket, INDEX, IsLowest, IsTrue, Place}
 use Rattle.bucket_slots.proofs.Words.{position, sum_by-append, trailing_zeros, get_or-le-sum_by, bit_at_not, w32, slots_without}
 use Rattle.bucket_slots.proofs.Words.{slots_with, slots_after_insertion, ne_eqb, is_match, place_matched, first_from, None}
 use Rattle.bucket_slots.proofs.Words.{Bool, cases_lt, inl, inr, is_live, length, length-set, live, live_pairs, marked, min}
@@ -252,9 +252,9 @@ module _ {K V : Type 0} where
   clear_bit (marked pair byte) none = absurd (omega arith)
 
   -- in a bucket without tombstones the lowest own slot that isn't live is the first free one
-  pub free_by_mask : (kind : ℕ) (b : BucketView K V) (bits pos : ℕ) → IsBucketOf kind b → kind ≢ INDEX → bits < 2 ^ 32
+  pub free_by_mask : (kind : ℕ) (b : BucketView K V) (chained bits pos : ℕ) → IsBucket kind b chained → kind ≢ INDEX → bits < 2 ^ 32
       → IsMaskOf is_live b.own bits → IsLowest (2 ^ 32 - 1 - bits) pos → position is_free b.own ≡ Some pos
-  free_by_mask kind b bits pos laws other fits mask low =
+  free_by_mask kind b chained bits pos laws other fits mask low =
       let marks : Slot K V → ℕ = λ x. tally (is_marked x) in
       let unmarked = laws.unmarked other in
       let none : (i : ℕ) → i < 32 → tally (is_marked (slot_at b.own i)) ≤ 0 = λ i below.
