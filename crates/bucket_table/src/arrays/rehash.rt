@@ -45,17 +45,9 @@ impl<K, V, L: LruList, const TYPE: u8> Arrays<K, V, L, TYPE> {
         ensures { self.new ≡ self.old }
     {
         match side {
-            Side::Current => self.refresh_current(index),
+            Side::Current => current_in(&mut self.current).refresh(index),
             Side::Old => {}
         }
-    }
-
-    /// Rebuilds the digest of a current bucket. No bucket changes.
-    fn refresh_current(&mut self, index: usize)
-        requires { index < length self.old.current }
-        ensures { self.new ≡ self.old }
-    {
-        current_in(&mut self.current).refresh(index);
     }
 }
 
@@ -136,7 +128,7 @@ impl<K: Eq + Drop, V: Drop, L: LruList + Drop, const TYPE: u8> Arrays<K, V, L, T
         let (first, _) = from_index_to_range(from, to, start);
         let (_, last) = from_index_to_range(from, to, end - 1);
         for home in first..last {
-            self.refresh_current(home);
+            self.refresh_on(Side::Current, home);
         }
     }
 

@@ -11,7 +11,7 @@ ghost use Rattle.bucket_slots.specs.BucketView.{pairs_in};
 ghost use Rattle.bucket_table.specs.Resize.Asking.{AsksGrowth, AsksShrinking, ResizesIf, ShrinksBy};
 ghost use Rattle.bucket_slots.specs.Homes.{IsHome};
 ghost use Rattle.bucket_table.specs.Map.Counting.{counted_to};
-ghost use Rattle.bucket_slots.specs.Sizing.{IsLength};
+ghost use Rattle.bucket_slots.specs.Sizing.{IsLength, IsTooEmpty, IsTooFull};
 ghost use Rattle.bucket_table.specs.Resize.Overfull.{GrowsIfOverfull, HasFullHome, MaySplit};
 ghost use Rattle.bucket_table.specs.Resize.Overfull.{IsOverfullBucket, TriesSplit};
 
@@ -179,7 +179,8 @@ impl<K, V, L: LruList, const TYPE: u8> Arrays<K, V, L, TYPE> {
         if self.len() == 0 || self.has_old() {
             return false;
         }
-        is_crowded(self.array_of(Side::Current), index)
+        let (slots, live) = near_slots(self.array_of(Side::Current), index);
+        BucketArray::<K, V, L, TYPE>::need_enlarge(slots, live)
     }
 
     pub(crate) fn asks_shrinking(&self, index: usize) -> bool
@@ -192,7 +193,8 @@ impl<K, V, L: LruList, const TYPE: u8> Arrays<K, V, L, TYPE> {
         if array.num_slots() <= self.minimum {
             return false;
         }
-        is_deserted(array, index)
+        let (slots, live) = near_slots(array, index);
+        BucketArray::<K, V, L, TYPE>::need_shrink(slots, live)
     }
 
     /// Returns whether there is no old array, and the home of a hash is an overfull bucket.
@@ -241,30 +243,18 @@ impl<K, V, L: LruList, const TYPE: u8> Arrays<K, V, L, TYPE> {
     }
 }
 
-/// Returns whether many slots near this index are live.
-fn is_crowded<K, V, L: LruList, const TYPE: u8>(
+/// Returns the number of own slots of a few buckets near an index, and how many of them are live.
+fn near_slots<K, V, L: LruList, const TYPE: u8>(
     array: &BucketArray<K, V, L, TYPE>,
     index: usize,
-) -> bool
-    ensures { IsTrue result ↔ IsCrowded (live_counts array.now) index }
+) -> (usize, usize)
+    ensures full { IsTooFull result.0 result.1 ↔ IsCrowded (live_counts array.now) index }
+    ensures empty { IsTooEmpty result.0 result.1 ↔ IsDeserted (live_counts array.now) index }
 {
     let _len = array.len();
     let size = array.small_sample_size();
     let live = live_slots(array, index % size, size);
-    BucketArray::<K, V, L, TYPE>::need_enlarge(size * BUCKET_LEN, live)
-}
-
-/// Returns whether few slots near this index are live.
-fn is_deserted<K, V, L: LruList, const TYPE: u8>(
-    array: &BucketArray<K, V, L, TYPE>,
-    index: usize,
-) -> bool
-    ensures { IsTrue result ↔ IsDeserted (live_counts array.now) index }
-{
-    let _len = array.len();
-    let size = array.small_sample_size();
-    let live = live_slots(array, index % size, size);
-    BucketArray::<K, V, L, TYPE>::need_shrink(size * BUCKET_LEN, live)
+    (size * BUCKET_LEN, live)
 }
 
 /// Returns whether a bucket has far more pairs than own slots, or as many and a long chain, whose
