@@ -2,7 +2,7 @@
 use Rattle.bucket_slots.proofs.Words.{BucketView, IsMaskOf, List, SetsBit, Slot, Some, [], ap, arith, bit_and, bit_at, bit_at_and, byte_of}
 use Rattle.bucket_slots.proofs.Words.{cases_eq, cond, empty_bucket, false, free, get_or, get_or-map, get_or-set_other}
 use Rattle.bucket_slots.proofs.Words.{get_or-set_same, has_byte, is_free, is_marked, IsBucket, INDEX, IsLowest, IsTrue, Place}
-use Rattle.bucket_slots.proofs.Words.{position, sum_by-append, trailing_zeros, get_or-le-sum_by, bit_at_not, w32, slots_without}
+use Rattle.bucket_slots.proofs.Words.{position, position-Some, sum_by-append, trailing_zeros, get_or-le-sum_by, bit_at_not, w32, slots_without}
 use Rattle.bucket_slots.proofs.Words.{slots_with, slots_after_insertion, ne_eqb, is_match, place_matched, first_from, None}
 use Rattle.bucket_slots.proofs.Words.{Bool, cases_lt, inl, inr, is_live, length, length-set, live, live_pairs, marked, min}
 use Rattle.bucket_slots.proofs.Words.{ones, pairs_in, refl, set, slot_at, subst, sym, true, common_steps, flattened}
@@ -252,7 +252,7 @@ module _ {K V : Type 0} where
   clear_bit (marked pair byte) none = absurd (omega arith)
 
   -- in a bucket without tombstones the lowest own slot that isn't live is the first free one
-  pub free_by_mask : (kind : ℕ) (b : BucketView K V) (chained bits pos : ℕ) → IsBucket kind b chained → kind ≢ INDEX → bits < 2 ^ 32
+  free_by_mask : (kind : ℕ) (b : BucketView K V) (chained bits pos : ℕ) → IsBucket kind b chained → kind ≢ INDEX → bits < 2 ^ 32
       → IsMaskOf is_live b.own bits → IsLowest (2 ^ 32 - 1 - bits) pos → position is_free b.own ≡ Some pos
   free_by_mask kind b chained bits pos laws other fits mask low =
       let marks : Slot K V → ℕ = λ x. tally (is_marked x) in
@@ -279,6 +279,15 @@ module _ {K V : Type 0} where
       bit_there : (is : Bool) → 1 - cond is 1 0 ≡ 1 → is ≡ false
       bit_there true e = absurd (omega arith)
       bit_there false e = refl
+
+  -- so the pair is put there
+  pub free_own : {b seen : BucketView K V} (kind chained bits pos : ℕ) → b ≡ seen → IsBucket kind b chained → kind ≢ INDEX
+      → bits < 2 ^ 32 → IsMaskOf is_live seen.own bits → IsLowest (2 ^ 32 - 1 - bits) pos
+      → (position is_free b.own ≡ Some pos) × (pos < length b.own) × (slot_at b.own pos ≡ free)
+  free_own {b} kind chained bits pos is laws other fits mask low =
+      let first = free_by_mask kind b chained bits pos laws other fits (rw (← is) at mask) low in
+      let here = position-Some is_free b.own pos free first in
+      (first, here.0, free_from (slot_at b.own pos) here.1)
 
   -- an own slot that is vacated
   pub without_own : (b : BucketView K V) (at : Place) → at.block ≡ 0

@@ -172,6 +172,8 @@ impl<K: Drop, V: Drop, L: LruList + Drop, const TYPE: u8> Arrays<K, V, L, TYPE> 
 }
 
 impl<K, V, L: LruList, const TYPE: u8> Arrays<K, V, L, TYPE> {
+    /// Returns whether there is no old array, and so many slots near an index are live that the
+    /// array should grow.
     #[inline(never)]
     pub(crate) fn asks_growth(&self, index: usize) -> bool
         ensures { IsTrue result ↔ AsksGrowth self.now index }
@@ -183,6 +185,8 @@ impl<K, V, L: LruList, const TYPE: u8> Arrays<K, V, L, TYPE> {
         BucketArray::<K, V, L, TYPE>::need_enlarge(slots, live)
     }
 
+    /// Returns whether there is no old array, the array has more slots than the minimum, and so few
+    /// near an index are live that it should shrink.
     pub(crate) fn asks_shrinking(&self, index: usize) -> bool
         ensures { IsTrue result ↔ AsksShrinking self.now index }
     {
