@@ -1,6 +1,6 @@
-use Rattle.bucket_slots.proofs.Words.{arith, of_calls, rules, ◌∙◌}
+use Rattle.bucket_slots.proofs.Words.{arith, of_calls, ◌∙◌}
 use Rattle.bucket_slots.proofs.Bitmaps.{ones-cleared, ones-none}
-use Rattle.bucket_slots.proofs.LiveMasks.{calling_done, calling_first, calling_next, live_read, named_filled}
+use Rattle.bucket_slots.proofs.LiveMasks.{calling_done, calling_first, calling_next, live_read}
 use Rattle.bucket_slots.proofs.bucket.row.Row.for_each_of.Goals as goal
 
 pub loop-called-init : goal.loop-called-init
