@@ -25,12 +25,17 @@ pub(crate) fn run_arrays(rt: &HostRuntime, prints_times: bool) -> io::Result<()>
     let mut slots = 0;
     let mut are_zero = true;
     for _ in 0..ROUNDS {
-        let (time, len) = time_of_array(rt)?;
-        array_time = array_time.min(time);
-        slots = len;
-        let (time, last) = time_of_zeros(rt)?;
-        zeros_time = zeros_time.min(time);
-        are_zero = are_zero && last == Some(0);
+        let start = Instant::now(rt)?;
+        let array = array_of(rt.alloc(), SLOTS)?;
+        array_time = array_time.min(start.elapsed(rt)?);
+        slots = array.num_slots();
+        drop(array);
+
+        let start = Instant::now(rt)?;
+        let zeros = zeros_of(rt.alloc(), WORDS)?;
+        zeros_time = zeros_time.min(start.elapsed(rt)?);
+        are_zero = are_zero && zeros.last() == Some(&0);
+        drop(zeros);
     }
     println!(rt; "{slots} slots, zeros {are_zero}, {ROUNDS} rounds")?;
     if prints_times {
@@ -41,20 +46,6 @@ pub(crate) fn run_arrays(rt: &HostRuntime, prints_times: bool) -> io::Result<()>
         )?;
     }
     Ok(())
-}
-
-/// Makes an array. Returns the time that it took, and the number of its slots.
-fn time_of_array(rt: &HostRuntime) -> io::Result<(Duration, usize)> {
-    let start = Instant::now(rt)?;
-    let array = array_of(rt.alloc(), SLOTS)?;
-    Ok((start.elapsed(rt)?, array.num_slots()))
-}
-
-/// Makes words of zero. Returns the time that it took, and the last word.
-fn time_of_zeros(rt: &HostRuntime) -> io::Result<(Duration, Option<u64>)> {
-    let start = Instant::now(rt)?;
-    let zeros = zeros_of(rt.alloc(), WORDS)?;
-    Ok((start.elapsed(rt)?, zeros.last().copied()))
 }
 
 /// Returns an array for a capacity in slots.

@@ -72,41 +72,21 @@ pub(crate) fn run_cache<C: Cached>(
     prints_times: bool,
     pairs: u64,
 ) -> io::Result<()> {
-    let mut cache = C::with_size(rt.alloc(), pairs)?;
-    run_half(rt, prints_times, &mut cache, pairs / 2)?;
-    run_rest(rt, prints_times, &mut cache, pairs)
-}
-
-/// Prints the cost of filling half of a cache, and of looking those keys up.
-fn run_half<C: Cached>(
-    rt: &HostRuntime,
-    prints_times: bool,
-    cache: &mut C,
-    half: u64,
-) -> io::Result<()> {
-    let start = Instant::now(rt)?;
-    require(put_all(cache, 0, half) == half)?;
-    print_time(rt, prints_times, "fill", start, half)?;
-    let start = Instant::now(rt)?;
-    let found = touch_all(cache, 0, half);
-    print_time(rt, prints_times, "touch", start, half)?;
-    require(found >= half - half / 16)
-}
-
-/// Prints the cost of looking absent keys up, and of putting twice as many as there is room for.
-fn run_rest<C: Cached>(
-    rt: &HostRuntime,
-    prints_times: bool,
-    cache: &mut C,
-    pairs: u64,
-) -> io::Result<()> {
     let half = pairs / 2;
     let twice = pairs.wrapping_mul(2);
+    let mut cache = C::with_size(rt.alloc(), pairs)?;
     let start = Instant::now(rt)?;
-    require(touch_all(cache, pairs, pairs.wrapping_add(half)) == 0)?;
+    require(put_all(&mut cache, 0, half) == half)?;
+    print_time(rt, prints_times, "fill", start, half)?;
+    let start = Instant::now(rt)?;
+    let found = touch_all(&mut cache, 0, half);
+    print_time(rt, prints_times, "touch", start, half)?;
+    require(found >= half - half / 16)?;
+    let start = Instant::now(rt)?;
+    require(touch_all(&mut cache, pairs, pairs.wrapping_add(half)) == 0)?;
     print_time(rt, prints_times, "absent", start, half)?;
     let start = Instant::now(rt)?;
-    require(put_all(cache, pairs, pairs.wrapping_add(twice)) == twice)?;
+    require(put_all(&mut cache, pairs, pairs.wrapping_add(twice)) == twice)?;
     print_time(rt, prints_times, "evict", start, twice)
 }
 

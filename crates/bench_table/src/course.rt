@@ -30,70 +30,29 @@ pub(crate) fn run_calls<M: Measured>(
     prints_times: bool,
     pairs: u64,
 ) -> io::Result<()> {
+    let twice = pairs.wrapping_mul(2);
     let before = resident_bytes(rt, prints_times)?;
     let mut map = M::with_room(rt.alloc(), 0)?;
-    run_growth(rt, prints_times, &mut map, pairs, before)?;
-    run_looks(rt, prints_times, &mut map, pairs)?;
-    run_walks(rt, prints_times, &mut map, pairs)?;
-    run_ends(rt, prints_times, &mut map, pairs)
-}
-
-/// Prints the cost of insertions into an empty map, and the bytes that it takes more than `before`.
-fn run_growth<M: Measured>(
-    rt: &HostRuntime,
-    prints_times: bool,
-    map: &mut M,
-    pairs: u64,
-    before: u64,
-) -> io::Result<()> {
     let start = Instant::now(rt)?;
-    require(insert_all(map, 0, pairs) == pairs)?;
+    require(insert_all(&mut map, 0, pairs) == pairs)?;
     print_time(rt, prints_times, "insert", start, pairs)?;
     let after = resident_bytes(rt, prints_times)?;
     if prints_times {
         println!(rt; "bytes {} {pairs}", after.saturating_sub(before))?;
     }
-    Ok(())
-}
-
-/// Prints the cost of look-ups, and of removals that are each followed by an insertion, on a map
-/// with the keys below `pairs`. It then has those from `pairs` to twice that.
-fn run_looks<M: Measured>(
-    rt: &HostRuntime,
-    prints_times: bool,
-    map: &mut M,
-    pairs: u64,
-) -> io::Result<()> {
     let start = Instant::now(rt)?;
-    require(find_all(map, 0, pairs) == pairs)?;
+    require(find_all(&map, 0, pairs) == pairs)?;
     print_time(rt, prints_times, "hit", start, pairs)?;
     let start = Instant::now(rt)?;
-    require(miss_all(map, pairs, pairs.wrapping_mul(2)) == pairs)?;
+    require(miss_all(&map, pairs, twice) == pairs)?;
     print_time(rt, prints_times, "miss", start, pairs)?;
     let start = Instant::now(rt)?;
-    require(churn_all(map, pairs) == pairs)?;
-    print_time(rt, prints_times, "churn", start, pairs)
+    require(churn_all(&mut map, pairs) == pairs)?;
+    print_time(rt, prints_times, "churn", start, pairs)?;
+    run_ends(rt, prints_times, &mut map, pairs)
 }
 
-/// Prints the cost of walks on a map with the keys from `pairs` to twice that.
-fn run_walks<M: Measured>(
-    rt: &HostRuntime,
-    prints_times: bool,
-    map: &mut M,
-    pairs: u64,
-) -> io::Result<()> {
-    let wanted = sum_between(pairs, pairs.wrapping_mul(2));
-    let start = Instant::now(rt)?;
-    let sum = map.sum();
-    print_time(rt, prints_times, "walk", start, pairs)?;
-    require(sum == wanted)?;
-    let start = Instant::now(rt)?;
-    let sum = map.iterated();
-    print_time(rt, prints_times, "iter", start, pairs)?;
-    require(sum == wanted)
-}
-
-/// Prints the cost of removals and of a sweep on a map with the keys from `pairs` to twice that.
+/// Prints the cost of walks, sweeps and removals on a map with the keys from `pairs` to twice that.
 fn run_ends<M: Measured>(
     rt: &HostRuntime,
     prints_times: bool,
@@ -101,6 +60,14 @@ fn run_ends<M: Measured>(
     pairs: u64,
 ) -> io::Result<()> {
     let twice = pairs.wrapping_mul(2);
+    let start = Instant::now(rt)?;
+    let sum = map.sum();
+    print_time(rt, prints_times, "walk", start, pairs)?;
+    require(sum == sum_between(pairs, twice))?;
+    let start = Instant::now(rt)?;
+    let sum = map.iterated();
+    print_time(rt, prints_times, "iter", start, pairs)?;
+    require(sum == sum_between(pairs, twice))?;
     let start = Instant::now(rt)?;
     require(remove_all(map, pairs, twice) == pairs)?;
     print_time(rt, prints_times, "remove", start, pairs)?;
