@@ -4,6 +4,7 @@ mod copying;
 mod extending;
 mod resizing;
 
+use crate::Counts;
 use crate::collection::Collection;
 use collections::hash_map::NotInserted;
 use std::mem;
@@ -23,11 +24,11 @@ pub(crate) struct Course {
     collection: Collection,
     beside: FewKeys,
     chance: Chance,
-    pub(crate) put: u64,
-    pub(crate) refused: u64,
-    pub(crate) gone: u64,
-    pub(crate) copied: u64,
-    pub(crate) uncopied: u64,
+    put: u64,
+    refused: u64,
+    gone: u64,
+    copied: u64,
+    uncopied: u64,
 }
 
 impl Course {
@@ -43,6 +44,17 @@ impl Course {
             copied: 0,
             uncopied: 0,
         }
+    }
+
+    /// Returns the five counts.
+    pub(crate) fn counts(&self) -> Counts {
+        (
+            self.put,
+            self.refused,
+            self.gone,
+            self.copied,
+            self.uncopied,
+        )
     }
 
     /// Makes a number of calls, up to the first with a wrong result. Returns whether there was none

@@ -14,6 +14,7 @@ mod course;
 use crate::collection::Collection;
 use crate::course::Course;
 use bucket_table::script::ScriptHash;
+use std::io;
 use std::process::ExitCode;
 
 // How many calls there are on each collection.
@@ -23,31 +24,58 @@ fn main(rt: HostRuntime) -> ExitCode {
     let mut status = ExitCode::SUCCESS;
     for hasher in [ScriptHash::Zero, ScriptHash::Id, ScriptHash::Spread] {
         for (name, collection) in Collection::all(rt.alloc(), hasher) {
-            let mut course = Course::new(collection);
-            let is_cache = name == "cache";
-            let is_right = course.play(CALLS) && is_cache == (course.gone > 0);
-            if !is_right {
-                status = ExitCode::from(1);
-            }
-            let judged = if is_right { "right" } else { "wrong" };
-            let (put, refused) = (course.put, course.refused);
-            let (copied, uncopied) = (course.copied, course.uncopied);
-            let written = match name {
-                "cache" => println!(rt;
-                    "{hasher:?} {name}: {CALLS} calls, {refused} failed, {judged}"
-                ),
-                "index" => println!(rt;
-                    "{hasher:?} {name}: {CALLS} calls, {put} pairs put, {refused} failed, {judged}"
-                ),
-                _ => println!(rt;
-                    "{hasher:?} {name}: {CALLS} calls, {put} pairs put, {copied} copied, \
-                     {uncopied} not copied, {refused} failed, {judged}"
-                ),
-            };
-            if written.is_err() {
-                return ExitCode::from(12);
+            match play(&rt, hasher, name, collection) {
+                Ok(true) => {}
+                Ok(false) => status = ExitCode::from(1),
+                Err(_) => return ExitCode::from(12),
             }
         }
     }
     status
+}
+
+// How often a pair was put, failed to be put, and was evicted, and how often the collection was
+// copied, and failed to be copied.
+type Counts = (u64, u64, u64, u64, u64);
+
+// Makes the calls on a collection, and prints what became of them. Returns whether every result was
+// right, and a cache evicted pairs.
+fn play(
+    rt: &HostRuntime,
+    hasher: ScriptHash,
+    name: &str,
+    collection: Collection,
+) -> io::Result<bool> {
+    let (plays, counts) = outcome(collection);
+    let is_right = plays && (name == "cache") == (counts.2 > 0);
+    print_counts(rt, hasher, name, counts, is_right)?;
+    Ok(is_right)
+}
+
+// Makes the calls on a collection, and returns whether every result was right.
+fn outcome(collection: Collection) -> (bool, Counts) {
+    let mut course = Course::new(collection);
+    let is_right = course.play(CALLS);
+    (is_right, course.counts())
+}
+
+// Prints what became of the calls on a collection.
+fn print_counts(
+    rt: &HostRuntime,
+    hasher: ScriptHash,
+    name: &str,
+    (put, refused, _gone, copied, uncopied): Counts,
+    is_right: bool,
+) -> io::Result<()> {
+    let judged = if is_right { "right" } else { "wrong" };
+    match name {
+        "cache" => println!(rt; "{hasher:?} {name}: {CALLS} calls, {refused} failed, {judged}"),
+        "index" => println!(rt;
+            "{hasher:?} {name}: {CALLS} calls, {put} pairs put, {refused} failed, {judged}"
+        ),
+        _ => println!(rt;
+            "{hasher:?} {name}: {CALLS} calls, {put} pairs put, {copied} copied, \
+             {uncopied} not copied, {refused} failed, {judged}"
+        ),
+    }
 }
