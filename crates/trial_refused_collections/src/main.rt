@@ -46,8 +46,9 @@ fn play(
     name: &str,
     collection: Collection,
 ) -> io::Result<bool> {
-    let (plays, counts) = outcome(collection);
-    let is_right = plays && (name == "cache") == (counts.2 > 0);
+    let (answers_are_right, counts) = outcome(collection);
+    let (_put, _refused, gone, _copied, _uncopied) = counts;
+    let is_right = answers_are_right && (name == "cache") == (gone > 0);
     print_counts(rt, hasher, name, counts, is_right)?;
     Ok(is_right)
 }
