@@ -93,16 +93,16 @@ impl Collection {
         (came, on_each!(self, any => any.len(), cache => cache.len()))
     }
 
-    /// Clears the collection. Returns whether it then has no pair, and no slot either if it is an
-    /// index.
+    /// Clears the collection. Returns whether it then has no pair, and as many slots as before.
     pub(crate) fn clear(&mut self) -> bool {
+        let slots = self.slots();
         on_each!(self, any => any.clear(), cache => cache.clear());
-        match self {
-            Map(map) => map.is_empty(),
-            Set(set) => set.is_empty(),
-            Index(index) => index.capacity() == 0,
-            Cache(cache) => cache.is_empty(),
-        }
+        self.slots() == slots && on_each!(self, any => any.is_empty(), cache => cache.is_empty())
+    }
+
+    /// Returns the number of slots.
+    fn slots(&self) -> usize {
+        on_each!(self, any => any.capacity(), cache => cache.capacity())
     }
 
     /// Raises the minimum, if there is one, and returns whether it was raised.

@@ -4,7 +4,6 @@ mod copying;
 mod extending;
 mod resizing;
 
-use crate::Counts;
 use crate::collection::Collection;
 use collections::hash_map::NotInserted;
 use std::mem;
@@ -17,18 +16,24 @@ const PHASE: u64 = 4000;
 // it.
 const WHOLE: u64 = 250;
 
-/// A collection, its expected contents, how often a pair was inserted, failed to be inserted, and
-/// was evicted, and how often the collection was copied, and failed to be copied.
+/// How often a pair was put, failed to be put, and was evicted, and how often the collection was
+/// copied, and failed to be copied.
+#[derive(Clone, Copy)]
+pub(crate) struct Counts {
+    pub(crate) put: u64,
+    pub(crate) refused: u64,
+    pub(crate) gone: u64,
+    pub(crate) copied: u64,
+    pub(crate) uncopied: u64,
+}
+
+/// A collection, its expected contents, and what became of the calls so far.
 #[derive(Drop)]
 pub(crate) struct Course {
     collection: Collection,
     beside: FewKeys,
     chance: Chance,
-    put: u64,
-    refused: u64,
-    gone: u64,
-    copied: u64,
-    uncopied: u64,
+    counts: Counts,
 }
 
 impl Course {
@@ -38,23 +43,19 @@ impl Course {
             collection,
             beside: FewKeys::new(),
             chance: Chance::new(),
-            put: 0,
-            refused: 0,
-            gone: 0,
-            copied: 0,
-            uncopied: 0,
+            counts: Counts {
+                put: 0,
+                refused: 0,
+                gone: 0,
+                copied: 0,
+                uncopied: 0,
+            },
         }
     }
 
-    /// Returns the five counts.
+    /// Returns what became of the calls.
     pub(crate) fn counts(&self) -> Counts {
-        (
-            self.put,
-            self.refused,
-            self.gone,
-            self.copied,
-            self.uncopied,
-        )
+        self.counts
     }
 
     /// Makes a number of calls, up to the first with a wrong result. Returns whether there was none
@@ -105,7 +106,7 @@ impl Course {
             }
             Err(NotInserted::Present(own, back)) => is_there && (own, back) == (key, value),
             Err(NotInserted::Memory(own, back)) => {
-                self.refused = self.refused.saturating_add(1);
+                self.counts.refused = self.counts.refused.saturating_add(1);
                 !is_there && (own, back) == (key, value)
             }
         }
@@ -119,7 +120,7 @@ impl Course {
         let number = gather(key);
         let was_there = self.beside.value(number) == Some(value);
         self.beside.set(number, None);
-        self.gone = self.gone.saturating_add(1);
+        self.counts.gone = self.counts.gone.saturating_add(1);
         was_there
     }
 
@@ -140,7 +141,7 @@ impl Course {
                 earlier == wanted
             }
             Err(back) => {
-                self.refused = self.refused.saturating_add(1);
+                self.counts.refused = self.counts.refused.saturating_add(1);
                 wanted.is_none() && back.value == (key, value)
             }
         }
@@ -149,7 +150,7 @@ impl Course {
     /// Records an inserted pair.
     fn puts(&mut self, number: u64, value: u64) {
         self.beside.set(number, Some(value));
-        self.put = self.put.saturating_add(1);
+        self.counts.put = self.counts.put.saturating_add(1);
     }
 
     /// Removes a pair.

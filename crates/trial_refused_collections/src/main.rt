@@ -12,7 +12,7 @@ mod collection;
 mod course;
 
 use crate::collection::Collection;
-use crate::course::Course;
+use crate::course::{Counts, Course};
 use bucket_table::script::ScriptHash;
 use std::io;
 use std::process::ExitCode;
@@ -34,10 +34,6 @@ fn main(rt: HostRuntime) -> ExitCode {
     status
 }
 
-// How often a pair was put, failed to be put, and was evicted, and how often the collection was
-// copied, and failed to be copied.
-type Counts = (u64, u64, u64, u64, u64);
-
 // Makes the calls on a collection, and prints what became of them. Returns whether every result was
 // right, and a cache evicted pairs.
 fn play(
@@ -47,8 +43,7 @@ fn play(
     collection: Collection,
 ) -> io::Result<bool> {
     let (answers_are_right, counts) = outcome(collection);
-    let (_put, _refused, gone, _copied, _uncopied) = counts;
-    let is_right = answers_are_right && (name == "cache") == (gone > 0);
+    let is_right = answers_are_right && (name == "cache") == (counts.gone > 0);
     print_counts(rt, hasher, name, counts, is_right)?;
     Ok(is_right)
 }
@@ -65,9 +60,16 @@ fn print_counts(
     rt: &HostRuntime,
     hasher: ScriptHash,
     name: &str,
-    (put, refused, _gone, copied, uncopied): Counts,
+    counts: Counts,
     is_right: bool,
 ) -> io::Result<()> {
+    let Counts {
+        put,
+        refused,
+        gone: _,
+        copied,
+        uncopied,
+    } = counts;
     let judged = if is_right { "right" } else { "wrong" };
     match name {
         "cache" => println!(rt; "{hasher:?} {name}: {CALLS} calls, {refused} failed, {judged}"),

@@ -8,11 +8,11 @@ impl Course {
         match self.collection.try_copied(cloned) {
             Ok(None) => true,
             Ok(Some(copy)) => {
-                self.copied = self.copied.saturating_add(1);
+                self.counts.copied = self.counts.copied.saturating_add(1);
                 self.agrees_with(&copy)
             }
             Err(_) => {
-                self.uncopied = self.uncopied.saturating_add(1);
+                self.counts.uncopied = self.counts.uncopied.saturating_add(1);
                 self.beside.len() > 0
             }
         }

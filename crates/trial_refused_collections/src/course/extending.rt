@@ -50,7 +50,7 @@ impl Course {
         if refused.is_none() {
             return left.is_none();
         }
-        self.refused = self.refused.saturating_add(1);
+        self.counts.refused = self.counts.refused.saturating_add(1);
         let next = end.saturating_add(1);
         let wanted = (next < MANY).then_some(spread(next));
         end < MANY && self.beside.value(end).is_none() && left == wanted

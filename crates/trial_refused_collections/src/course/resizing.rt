@@ -12,7 +12,7 @@ impl Course {
         };
         let slots = if cache.capacity() == 64 { 128 } else { 64 };
         if cache.resize(slots).is_err() {
-            self.refused = self.refused.saturating_add(1);
+            self.counts.refused = self.counts.refused.saturating_add(1);
             return true;
         }
         self.lets_go()
@@ -27,7 +27,7 @@ impl Course {
                     return false;
                 }
                 self.beside.set(number, None);
-                self.gone = self.gone.saturating_add(1);
+                self.counts.gone = self.counts.gone.saturating_add(1);
             }
         }
         true
