@@ -1,7 +1,7 @@
 -- Lists of equally long parts, and parts of which some buckets are initialized.
 use Rattle.bucket_slots.proofs.Words.{All, All-head, All-tail, AreParts, Bool, BucketView, IsLengthFor, List, [], add-mul, ap, append-nil}
 use Rattle.bucket_slots.proofs.Words.{append_assoc, arith, cases_lt, div-add-mod, div_below, drop, empty_bucket, false, flat_map-append, le-mul_of_pos_right}
-use Rattle.bucket_slots.proofs.Words.{flattened, get_or, inl, inr, length, length-append, length-set, length-take-le, mod-lt, mul_comm}
+use Rattle.bucket_slots.proofs.Words.{flattened, get_or, get_or-set_other, get_or-set_same, inl, inr, length, length-append, length-set, length-take-le, mod-lt, mul_comm}
 use Rattle.bucket_slots.proofs.Words.{one-mul, part_at, pow_pos, refl, replicate, set, set-get_or, set_split, subst, suc, sym, take, true}
 use Rattle.bucket_slots.proofs.Words.{unmade_bucket, with_unmade, zero, ℕ, ◌%◌, ◌*◌, ◌++◌, ◌+◌, ◌-◌, ◌/◌, ◌<◌, ◌^◌, ◌∙◌, ◌∷◌, ◌≡◌, ◌≤◌}
 use Rattle.std.proofs.lemmas.List.{get_or-append_right, get_or-replicate, get_or_append_left, get_or_read, length-replicate, length_push}
@@ -25,13 +25,21 @@ module _ {A : Type 0} where
     | inr upto ↦ let same : i ≡ left = omega (arith, from, upto) in rw same here
   ]
 
+  -- if the elements before an index are one value, so are they and the one there once it is set to that value
+  pub set_one_more : (xs : List A) (x d : A) (index : ℕ) → index < length xs → ((i : ℕ) → i < index → get_or xs i d ≡ x) → (i : ℕ)
+      → i < index + 1 → get_or (set xs index x) i d ≡ x
+  set_one_more xs x d index there before i below = elim (cases_lt i index) [
+    | inl less ↦ get_or-set_other xs index i x d (λ same. absurd (omega (arith, less, same))) ∙ before i less
+    | inr from ↦ let same : i ≡ index = omega (arith, below, from) in rw same (get_or-set_same xs index x d there)
+  ]
+
   pub flattened-replicate : (n m : ℕ) (x : A) → flattened (replicate n (replicate m x)) ≡ replicate (n * m) x
   flattened-replicate zero m x = let none : 0 ≡ 0 * m = omega arith in ap (λ k. replicate k x) none
   flattened-replicate (suc n) m x =
       let more : m + n * m ≡ suc n * m = omega (arith, add-mul 1 n m, one-mul m) in
       ap (λ l. replicate m x ++ l) (flattened-replicate n m x) ∙ replicate-append-replicate m (n * m) x ∙ ap (λ k. replicate k x) more
 
-  length-flattened : (rows : List (List A)) (m : ℕ) → All (λ row. length row ≡ m) rows → length (flattened rows) ≡ length rows * m
+  pub length-flattened : (rows : List (List A)) (m : ℕ) → All (λ row. length row ≡ m) rows → length (flattened rows) ≡ length rows * m
   length-flattened [] m long = omega arith
   length-flattened (row ∷ rows) m long =
       let rest = length-flattened rows m (All-tail (λ r. length r ≡ m) row rows long) in

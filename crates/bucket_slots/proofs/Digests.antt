@@ -3,7 +3,8 @@ use Rattle.bucket_slots.proofs.Words.{BucketView, IsMaskOf, List, SetsBit, Slot,
 use Rattle.bucket_slots.proofs.Words.{cases_eq, cond, empty_bucket, false, free, get_or, get_or-map, get_or-set_other}
 use Rattle.bucket_slots.proofs.Words.{get_or-set_same, has_byte, is_free, is_marked, IsBucket, INDEX, IsLowest, IsTrue, Place}
 use Rattle.bucket_slots.proofs.Words.{position, position-Some, sum_by-append, trailing_zeros, get_or-le-sum_by, bit_at_not, w32, slots_without}
-use Rattle.bucket_slots.proofs.Words.{slots_with, slots_after_insertion, ne_eqb, is_match, place_matched, first_from, None}
+use Rattle.bucket_slots.proofs.Words.{slots_with, slots_after_insertion, is_match, place_matched, first_from, None, list_any, list_any_at, list_any_none}
+use Rattle.bucket_slots.proofs.Words.{cases_Bool, false≢true}
 use Rattle.bucket_slots.proofs.Words.{Bool, cases_lt, inl, inr, is_live, length, length-set, live, live_pairs, marked, min}
 use Rattle.bucket_slots.proofs.Words.{ones, pairs_in, refl, set, slot_at, subst, sym, true, common_steps, flattened}
 use Rattle.bucket_slots.proofs.Words.{replicate, ◌≤◌, suc, with_unmade, zero, ℕ, ◌-◌, ◌<◌, ◌==◌, ◌^◌, ◌∙◌, ◌≡◌, ◌≢◌}
@@ -11,7 +12,9 @@ use Rattle.std.specs.Int.Count.{ones-ones}
 use Rattle.bucket_slots.specs.ArrayView.{bucket_at}
 use Rattle.bucket_slots.specs.BucketView.{block_at, bucket_with_value, row_at, slot_in, with_slot_at}
 use Rattle.bucket_slots.specs.Evicting.{slots_touched}
+use Rattle.bucket_slots.specs.Clearing.{is_full_with_marks}
 use Rattle.bucket_slots.specs.Slots.{slot_with_value}
+use Rattle.bucket_slots.proofs.BucketPlacing.{looks_at_none}
 use Rattle.bucket_slots.specs.Layout.ArrayFields.{IsArray}
 use Rattle.bucket_slots.specs.Layout.Digests.{Refreshes, AreDigests, ChangesOne, Digest, DigestLists, IsDigest, IsStale, KnowsNone, digest_at}
 use Rattle.bucket_slots.specs.declared.bucket.TheConstants.{BUCKET_LEN}
@@ -251,19 +254,19 @@ module _ {K V : Type 0} where
   clear_bit (live pair byte) none = (λ e. refl, λ e. cc)
   clear_bit (marked pair byte) none = absurd (omega arith)
 
+  unmarked_at : (own : List (Slot K V)) (i : ℕ) → list_any is_marked own ≡ false → i < length own → is_marked (slot_at own i) ≡ false
+  unmarked_at own i none below = elim (cases_Bool (is_marked (slot_at own i))) [
+    | inl is ↦ absurd (false≢true (sym none ∙ list_any_at is_marked own i free below is))
+    | inr other ↦ other
+  ]
+
   -- in a bucket without tombstones the lowest own slot that isn't live is the first free one
-  free_by_mask : (kind : ℕ) (b : BucketView K V) (chained bits pos : ℕ) → IsBucket kind b chained → kind ≢ INDEX → bits < 2 ^ 32
-      → IsMaskOf is_live b.own bits → IsLowest (2 ^ 32 - 1 - bits) pos → position is_free b.own ≡ Some pos
-  free_by_mask kind b chained bits pos laws other fits mask low =
-      let marks : Slot K V → ℕ = λ x. tally (is_marked x) in
-      let unmarked = laws.unmarked other in
+  free_by_mask : (kind : ℕ) (b : BucketView K V) (chained bits pos : ℕ) → IsBucket kind b chained
+      → list_any is_marked b.own ≡ false → bits < 2 ^ 32 → IsMaskOf is_live b.own bits → IsLowest (2 ^ 32 - 1 - bits) pos
+      → position is_free b.own ≡ Some pos
+  free_by_mask kind b chained bits pos laws unmarked fits mask low =
       let none : (i : ℕ) → i < 32 → tally (is_marked (slot_at b.own i)) ≤ 0 = λ i below.
-      omega (
-        arith,
-        get_or-le-sum_by marks b.own i free (omega (arith, laws.own_long, below)),
-        unmarked,
-        sum_by-append marks b.own (flattened b.chain),
-      ) in
+      omega (arith, ap tally (unmarked_at b.own i unmarked (omega (arith, laws.own_long, below)))) in
       let bit : (i : ℕ) → i < 32 → bit_at (2 ^ 32 - 1 - bits) i ≡ 1 - cond (is_live (slot_at b.own i)) 1 0 = λ i below.
       bit_at_not w32 bits i fits below ∙ ap (λ n. 1 - n) (bit-mask is_live b.own bits mask i free refl) in
       let within = low.within in
@@ -281,11 +284,11 @@ module _ {K V : Type 0} where
       bit_there false e = refl
 
   -- so the pair is put there
-  pub free_own : {b seen : BucketView K V} (kind chained bits pos : ℕ) → b ≡ seen → IsBucket kind b chained → kind ≢ INDEX
-      → bits < 2 ^ 32 → IsMaskOf is_live seen.own bits → IsLowest (2 ^ 32 - 1 - bits) pos
+  pub free_own : {b seen : BucketView K V} (kind chained bits pos : ℕ) → b ≡ seen → IsBucket kind b chained
+      → list_any is_marked seen.own ≡ false → bits < 2 ^ 32 → IsMaskOf is_live seen.own bits → IsLowest (2 ^ 32 - 1 - bits) pos
       → (position is_free b.own ≡ Some pos) × (pos < length b.own) × (slot_at b.own pos ≡ free)
-  free_own {b} kind chained bits pos is laws other fits mask low =
-      let first = free_by_mask kind b chained bits pos laws other fits (rw (← is) at mask) low in
+  free_own {b} kind chained bits pos is laws unmarked fits mask low =
+      let first = free_by_mask kind b chained bits pos laws (rw (← is) at unmarked) fits (rw (← is) at mask) low in
       let here = position-Some is_free b.own pos free first in
       (first, here.0, free_from (slot_at b.own pos) here.1)
 
@@ -310,10 +313,24 @@ module _ {K V : Type 0} where
       subst (λ (x : BucketView K V). IsDigest new x) (sym (put_in_own b pos pair byte place))
       (IsDigest-filled digest new b pos pair byte d below bits bytes)
 
-  -- only in an index an insertion looks for tombstones
-  pub after_put : (kind : ℕ) (keeps : ℕ → Bool) (b : BucketView K V) (pair : K × V) (byte : ℕ) → kind ≢ INDEX
-      → slots_after_insertion kind keeps b pair byte ≡ slots_with b pair byte
-  after_put kind keeps b pair byte other = let e : (kind == INDEX) ≡ false = ne_eqb kind INDEX other in rw e refl
+  -- no own slot of a bucket that is no index is a tombstone
+  pub own_unmarked : (kind chained : ℕ) (b : BucketView K V) → IsBucket kind b chained → kind ≢ INDEX → list_any is_marked b.own ≡ false
+  own_unmarked kind chained b laws other =
+      let marks : Slot K V → ℕ = λ x. tally (is_marked x) in
+      let none = laws.unmarked other in
+      list_any_none is_marked b.own (λ i d below. not_tallied (is_marked (get_or b.own i d))
+      (omega (arith, none, sum_by-append marks b.own (flattened b.chain), get_or-le-sum_by marks b.own i d below)))
+    where
+      not_tallied : (is : Bool) → tally is ≤ 0 → is ≡ false
+      not_tallied true few = absurd (omega arith)
+      not_tallied false few = refl
+
+  -- where no own slot is a tombstone an insertion looks for none
+  pub after_put : (kind : ℕ) (keeps : ℕ → Bool) (b : BucketView K V) (pair : K × V) (byte : ℕ)
+      → list_any is_marked b.own ≡ false → slots_after_insertion kind keeps b pair byte ≡ slots_with b pair byte
+  after_put kind keeps b pair byte unmarked =
+      let full : is_full_with_marks b.own ≡ false = rw unmarked (grind arith) in
+      rw (looks_at_none kind b full) refl
 
   -- the number of pairs is the number of set bits
   pub live_counted : (digest : Digest) (bucket : BucketView K V) → IsDigest digest bucket → ones digest.live ≡ length (pairs_in bucket)

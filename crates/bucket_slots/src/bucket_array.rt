@@ -10,11 +10,13 @@
 //! zeroed raw memory, aligns it and writes data blocks into it.
 //!
 //! What `digested`, `moving`, `walking` and `writing` export is public only for `bucket_table`, as
-//! are `refresh`, `adopt_digests`, `start_digests`, `spread_own`, `release_into` and
+//! are `clear`, `refresh`, `adopt_digests`, `start_digests`, `spread_own`, `release_into` and
 //! `release_around`.
 ghost use Rattle.std.specs.Prelude.{◌≡◌, ◌*◌, ◌^◌, ◌<◌, ◌≤◌, ◌↔◌, IfOk, IsTrue, length};
+ghost use Rattle.std.specs.Prelude.{replicate};
 ghost use Rattle.std.specs.Borrow.{sem};
 ghost use Rattle.bucket_slots.specs.ArrayView.{IsNewArray, bucket_at};
+ghost use Rattle.bucket_slots.specs.BucketView.{empty_bucket};
 ghost use Rattle.bucket_slots.specs.Homes.{IsHome};
 ghost use Rattle.bucket_slots.specs.Sampling.{IsLargeSample, IsSmallSample};
 ghost use Rattle.bucket_slots.specs.Sampling.{StartsSampling, full_sample};
@@ -87,6 +89,20 @@ impl<K: Drop, V: Drop, L: LruList + Drop, const TYPE: u8> BucketArray<K, V, L, T
             buckets,
             digests: Digests::none(alloc),
         })
+    }
+
+    /// Makes all buckets empty. Drops their pairs, tombstones and blocks, and keeps the memory of
+    /// the slots.
+    ///
+    /// Allocates at most digests, and never fails: a digest without memory stays stale.
+    /// O(buckets, and pairs).
+    pub fn clear(&mut self, alloc: Global)
+        ensures { self.new ≡ replicate (length self.old) empty_bucket }
+    {
+        let len = self.digests_len();
+        self.digests.restart(alloc, len);
+        self.buckets.clear();
+        self.start_digests(alloc);
     }
 }
 

@@ -18,8 +18,8 @@ ghost use Rattle.std.specs.Borrow.{Bor};
 ghost use Rattle.bucket_slots.specs.Marking.{HasNoNewMark, MarksBy};
 ghost use Rattle.bucket_slots.specs.Walking.{CallsEach};
 ghost use Rattle.bucket_table.specs.Map.LookingUp.{IsThere};
-ghost use Rattle.bucket_table.specs.Rehash.State.{first_tickets};
 ghost use Rattle.bucket_table.specs.Views.ArraysView.{tombstones_of, pairs_of};
+ghost use Rattle.bucket_table.specs.Walking.Drains.{emptied};
 ghost use Rattle.bucket_slots.specs.declared.not_inserted.NotInserted.TheVariants.{Memory};
 ghost use Rattle.collections.specs.Changes.{Inserts, ReadsOut, Reserves, Stays, TakesOut};
 ghost use Rattle.collections.specs.Crowding.{LacksSlots};
@@ -336,16 +336,17 @@ impl<K: Eq + Drop, V: Drop, H: KeyHash<K>> HashIndex<K, V, H> {
         self.table.fact_sound();
     }
 
-    /// Drops all pairs, the tombstones too, and all slots; the hasher and the capacities stay.
+    /// Drops all pairs and tombstones. The hasher, the capacities and the slots stay;
+    /// `shrink_to_fit` frees them.
     ///
-    /// Never fails. O(slots). scc: `HashIndex::clear_sync`, which leaves tombstones.
+    /// Never fails. O(slots). std: `HashMap::clear`. scc: `HashIndex::clear_sync`, which leaves
+    /// tombstones.
     pub fn clear(&mut self)
         ensures hasher { self.new.hasher ≡ self.old.hasher }
-        ensures arrays { self.new.arrays
-            ≡ record self.old.arrays { current = []; linked = []; tickets = first_tickets 0 } }
+        ensures arrays { self.new.arrays ≡ emptied self.old.arrays }
     {
         self.room.fact_fits();
-        self.table.clear();
+        self.table.empty_slots();
     }
 }
 

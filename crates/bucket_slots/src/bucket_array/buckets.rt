@@ -7,9 +7,9 @@
 //! killed one, which stand for those that aren't initialized; a short array has its buckets there.
 ghost use Rattle.std.specs.Prelude.{◌≡◌, ◌≢◌, ℕ, ◌+◌, ◌-◌, ◌<◌, ◌≤◌, ◌^◌, ◌%◌, [], Some, true};
 ghost use Rattle.std.specs.Prelude.{◌↔◌, IfOk, IfSome, IsTrue, length, option_map, replicate};
-ghost use Rattle.std.specs.Prelude.{slice_set};
+ghost use Rattle.std.specs.Prelude.{false, slice_set};
 ghost use Rattle.std.specs.Borrow.{sem};
-ghost use Rattle.std.specs.List.{position};
+ghost use Rattle.std.specs.List.{list_any, position};
 ghost use Rattle.bucket_slots.specs.ArrayRoom.{BucketFits};
 ghost use Rattle.bucket_slots.specs.ArrayView.{bucket_at};
 ghost use Rattle.bucket_slots.specs.BucketView.{empty_bucket, slot_in};
@@ -18,10 +18,10 @@ ghost use Rattle.bucket_slots.specs.Placing.{slots_with};
 ghost use Rattle.bucket_slots.specs.Removing.{slots_without};
 ghost use Rattle.bucket_slots.specs.Searching.{has_byte, matching_len, place_matched};
 ghost use Rattle.bucket_slots.specs.Sizing.{IsLength};
-ghost use Rattle.bucket_slots.specs.Slots.{is_free, is_live, live_pair, slot_at};
+ghost use Rattle.bucket_slots.specs.Slots.{is_free, is_live, is_marked, live_pair, slot_at};
 ghost use Rattle.bucket_slots.specs.Spreading.{IsShifted, SpreadsSome};
 
-use super::part::{Part, empty_buckets, first_fresh, spare_buckets};
+use super::part::{Part, empty_all, empty_buckets, first_fresh, spare_buckets};
 use super::sizing::{LEAST_PART_BITS, parts_for, place_of};
 use crate::bucket::room::fits_in_memory;
 use crate::bucket::{Bucket, EntryPtr, INDEX, KeyProbe};
@@ -276,10 +276,11 @@ impl<K: Drop, V: Drop, L: LruList, const TYPE: u8> Buckets<K, V, L, TYPE> {
     }
 
     /// Puts a live pair into the lowest free own slot of a bucket, in an array that isn't short,
-    /// and returns its position. `lives` is the bitmap of the live own slots.
+    /// and returns its position. No own slot is a tombstone, and `lives` is the bitmap of the live
+    /// ones.
     #[inline(always)]
     pub(crate) fn fill(&mut self, index: usize, lives: u32, byte: u8, pair: (K, V)) -> u32
-        requires not_index { TYPE ≢ INDEX }
+        requires unmarked { list_any is_marked (bucket_at self.old index).own ≡ false }
         requires long { 4 < length self.old }
         requires within { index < length self.old }
         requires mask { IsMaskOf is_live (bucket_at self.old index).own lives }
@@ -359,6 +360,18 @@ impl<K: Drop, V: Drop, L: LruList, const TYPE: u8> Buckets<K, V, L, TYPE> {
 }
 
 impl<K: Drop, V: Drop, L: LruList + Drop, const TYPE: u8> Buckets<K, V, L, TYPE> {
+    /// Makes all buckets empty. Drops their pairs and blocks, and keeps the memory of the slots.
+    pub(crate) fn clear(&mut self)
+        ensures { self.new ≡ replicate (length self.old) empty_bucket }
+    {
+        self.fact_room();
+        if self.len <= SHORT_LEN {
+            empty_all(&mut self.beside);
+        } else {
+            Part::clear_all(&mut self.parts);
+        }
+    }
+
     /// Frees the buckets of the part around a bucket, if all are killed and empty, and the part is
     /// longer than the least length. No bucket changes.
     pub(crate) fn release(&mut self, index: usize)

@@ -216,7 +216,7 @@ impl<K, V, L: LruList, const TYPE: u8> BucketArray<K, V, L, TYPE> {
 
     /// Returns the number of digests: one for each bucket, or none if there are at most four
     /// buckets.
-    fn digests_len(&self) -> usize {
+    pub(super) fn digests_len(&self) -> usize {
         if self.buckets.is_short() {
             0
         } else {

@@ -7,6 +7,7 @@
 ghost use Rattle.std.specs.Prelude.{◌≡◌, ℕ, ◌+◌, ◌<◌, ◌≤◌, ◌^◌, ◌∷◌, [], List, true, false};
 ghost use Rattle.std.specs.Prelude.{IfOk, IfSome, length, replicate, vec_capacity, vec_len};
 ghost use Rattle.std.specs.Borrow.{sem};
+ghost use Rattle.std.specs.List.{All};
 ghost use Rattle.bucket_slots.specs.ArrayRoom.{BucketFits};
 ghost use Rattle.bucket_slots.specs.ArrayView.{bucket_at};
 ghost use Rattle.bucket_slots.specs.BucketView.{BucketView, empty_bucket};
@@ -145,6 +146,28 @@ impl<K, V, L: LruList, const TYPE: u8> Part<K, V, L, TYPE> {
 }
 
 impl<K: Drop, V: Drop, L: LruList + Drop, const TYPE: u8> Part<K, V, L, TYPE> {
+    /// Drops the buckets, so that all are empty. Keeps the memory.
+    pub(crate) fn clear(&mut self)
+        requires { BucketFits K.row V.row L.row TYPE.row
+            (record { KEEPS = L.KEEPS; listed = L.listed; IsTail = L.IsTail }) L.Default }
+        ensures { self.new ≡ replicate (length self.old) empty_bucket }
+    {
+        self.made.clear();
+        self.released = false;
+    }
+
+    /// Makes the buckets of all parts empty, as `clear` does.
+    pub(crate) fn clear_all(parts: &mut Vec<Part<K, V, L, TYPE>>)
+        requires { BucketFits K.row V.row L.row TYPE.row
+            (record { KEEPS = L.KEEPS; listed = L.listed; IsTail = L.IsTail }) L.Default }
+        ensures { (len : ℕ) → All (λ part. length part ≡ len) parts.old.items
+            → parts.new.items ≡ replicate (length parts.old.items) (replicate len empty_bucket) }
+    {
+        for index in 0..parts.len() {
+            parts[index].clear();
+        }
+    }
+
     /// Drops the buckets, if all are killed and empty. Reads of the part stay the same.
     ///
     /// New memory replaces that of the buckets, so lending a bucket for writing still allocates
@@ -294,6 +317,23 @@ where
         buckets.push_reserved(Bucket::new(alloc));
     }
     Ok(buckets)
+}
+
+/// Makes buckets empty.
+pub(crate) fn empty_all<K, V, L: LruList + Drop, const TYPE: u8>(
+    buckets: &mut Vec<Bucket<K, V, L, TYPE>>,
+)
+where
+    K: Drop,
+    V: Drop,
+    requires { BucketFits K.row V.row L.row TYPE.row
+        (record { KEEPS = L.KEEPS; listed = L.listed; IsTail = L.IsTail }) L.Default }
+    ensures { buckets.new.items ≡ replicate (length buckets.old.items) empty_bucket }
+{
+    let alloc = *buckets.allocator();
+    for index in 0..buckets.len() {
+        buckets[index] = Bucket::new(alloc);
+    }
 }
 
 /// Returns whether all buckets are killed and empty. The last ones are tested first, since they are

@@ -98,12 +98,12 @@ impl<K: Drop, V: Drop, L: LruList, const TYPE: u8> BucketArray<K, V, L, TYPE> {
         ensures unchanged { OnErr result (self.new ≡ self.old) }
     {
         self.fact_room();
-        if TYPE == INDEX {
-            return self.insert_stale(index, hash, key, value, generation);
-        }
         let Some((live, left)) = self.digests.known(&self.buckets, index, hash) else {
             return self.insert_stale(index, hash, key, value, generation);
         };
+        if self.buckets.get(index).has_marks() {
+            return self.insert_stale(index, hash, key, value, generation);
+        }
         if let Some(_found) = self
             .buckets
             .find_among(index, left, hash, &mut EqProbe::new(&key))

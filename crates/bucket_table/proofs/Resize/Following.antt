@@ -3,21 +3,22 @@ use Rattle.bucket_table.proofs.Words.{All, All-nil, AreHome, ArePlaced, AreTwoAr
 use Rattle.bucket_table.proofs.Words.{IsPermutation-refl, IsVacant, Keeps, List, LosesNoUnit, ℕ, [], ap, append-nil, arith, bucket_at}
 use Rattle.bucket_table.proofs.Words.{empty_bucket, entries_among, false≢true, first_tickets, get_or_default, inl, length}
 use Rattle.bucket_table.proofs.Words.{marks_among, nil_from_length, pairs_in, refl, replicate, suc, sym, true, zero, ◌<◌, ◌∙◌, ◌≡◌}
-use Rattle.std.proofs.lemmas.List.{get_or-replicate}
+use Rattle.std.proofs.lemmas.List.{get_or-replicate, length-replicate}
 use Rattle.bucket_slots.proofs.MarksAfter.{no_new-front, no_new-rest}
 use Rattle.bucket_table.specs.Resize.Resizing.{IsGivenUp, IsMade, IsPushed}
+use Rattle.bucket_table.specs.Walking.Drains.{emptied}
 use Rattle.bucket_table.proofs.Views.Killed.{length-killed_flags}
 
 module _ {K V : Type 0} where
-  -- the buckets of a new array are empty
-  new_bucket : (capacity : ℕ) (fresh : List (BucketView K V)) (i : ℕ) → IsNewArray capacity fresh
-      → i < length fresh → bucket_at fresh i ≡ empty_bucket
-  new_bucket capacity fresh i new below = ap (λ (bs : List (BucketView K V)). bucket_at bs i) new.empty ∙ get_or-replicate
+  -- each bucket of an array whose buckets are all empty
+  new_bucket : (fresh : List (BucketView K V)) (i : ℕ) → fresh ≡ replicate (length fresh) empty_bucket → i < length fresh
+      → bucket_at fresh i ≡ empty_bucket
+  new_bucket fresh i empty below = ap (λ (bs : List (BucketView K V)). bucket_at bs i) empty ∙ get_or-replicate
       (length fresh) i empty_bucket empty_bucket below
 
   pub new_vacant : (capacity : ℕ) (fresh : List (BucketView K V)) (i : ℕ)
       → IsNewArray capacity fresh → i < length fresh → IsVacant (bucket_at fresh i)
-  new_vacant capacity fresh i new below = rw (new_bucket capacity fresh i new below) (record { free = refl; own_long = refl })
+  new_vacant capacity fresh i new below = rw (new_bucket fresh i new.empty below) (record { free = refl; own_long = refl })
 
   no_entries_new : (n : ℕ) → entries_among (replicate n (empty_bucket {K = K} {V = V})) ≡ []
   no_entries_new zero = refl
@@ -62,16 +63,18 @@ module _ {K V : Type 0} where
   made_keeps old new is = rw is.new_is (keeps_with old is.fresh (rw (nil_from_length old.current is.none) refl)
       (new_entries _ _ is.fresh_is) (new_marks _ _ is.fresh_is))
 
-  -- a new array beside any old one that obeys the law
-  fresh_homes : (hash : K → ℕ) (capacity : ℕ) (fresh linked : List (BucketView K V)) → IsNewArray capacity fresh → AreHome hash linked
+  -- an array whose buckets are all empty, beside any old one that obeys the law
+  fresh_homes : (hash : K → ℕ) (fresh linked : List (BucketView K V)) → fresh ≡ replicate (length fresh) empty_bucket
+      → AreHome hash linked
       → ((i : ℕ) → i < length linked → (bucket_at linked i).killed ≡ true → pairs_in (bucket_at linked i) ≡ [])
       → AreTwoArrays hash fresh linked
-  fresh_homes hash capacity fresh linked new home killed_empty = record {
-    current_home = λ i below. rw (new_bucket capacity fresh i new below) (All-nil (IsEntryHome hash (length fresh) i));
+  fresh_homes hash fresh linked empty home killed_empty = record {
+    current_home = λ i below. rw (new_bucket fresh i empty below) (All-nil (IsEntryHome hash (length fresh) i));
     linked_home = home;
-    alive = λ i below. rw (new_bucket capacity fresh i new below) refl;
+    alive = λ i below. rw (new_bucket fresh i empty below) refl;
     killed_empty = killed_empty;
-    empty_targets = λ longer i j old_below below live meets. new_vacant capacity fresh j new below;
+    empty_targets = λ longer i j old_below below live meets.
+        rw (new_bucket fresh j empty below) (record { free = refl; own_long = refl });
   }
 
   -- an old array whose rehash begins
@@ -103,7 +106,7 @@ module _ {K V : Type 0} where
   pub pushed_placed : (hash : K → ℕ) (capacity : ℕ) (old new : ArraysView K V) → IsPushed capacity old new → ArePlaced hash old
       → ArePlaced hash new
   pushed_placed hash capacity old new is law = rw is.new_is (record {
-    homes = fresh_homes hash capacity is.fresh old.current is.fresh_is law.homes.current_home
+    homes = fresh_homes hash is.fresh old.current is.fresh_is.empty law.homes.current_home
         (λ i below dead. absurd (false≢true (sym (law.homes.alive i below) ∙ dead)));
     rehashed = rehash_begun old.current (λ i d below dead. absurd (false≢true (sym (law.homes.alive i below)
         ∙ ap (λ (b : BucketView K V). b.killed) (get_or_default old.current i empty_bucket d below) ∙ dead)));
@@ -111,6 +114,22 @@ module _ {K V : Type 0} where
 
   pub made_placed : (hash : K → ℕ) (old new : ArraysView K V) → IsMade old new → ArePlaced hash old → ArePlaced hash new
   made_placed hash old new is law = rw is.new_is (record {
-    homes = fresh_homes hash old.minimum is.fresh old.linked is.fresh_is law.homes.linked_home law.homes.killed_empty;
+    homes = fresh_homes hash is.fresh old.linked is.fresh_is.empty law.homes.linked_home law.homes.killed_empty;
     rehashed = law.rehashed;
   })
+
+  module _ (arrays : ArraysView K V) where
+    pub emptied_keeps : Keeps (record arrays { current = []; linked = []; tickets = first_tickets 0 }) (emptied arrays)
+    emptied_keeps =
+        let len = length arrays.current in
+        keeps_with (record (emptied arrays) { current = [] }) (replicate len empty_bucket) refl (no_entries_new len) (no_marks_new len)
+
+    pub emptied_placed : (hash : K → ℕ) → ArePlaced hash (emptied arrays)
+    emptied_placed hash =
+        let len = length arrays.current in
+        record {
+          homes = fresh_homes hash (replicate len empty_bucket) []
+              (ap (λ m. replicate m empty_bucket) (sym (length-replicate len (empty_bucket {K = K} {V = V}))))
+              (λ i below. absurd (omega arith)) (λ i below. absurd (omega arith));
+          rehashed = rehash_begun [] (λ i d below. absurd (omega arith));
+        }

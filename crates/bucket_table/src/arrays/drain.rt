@@ -4,7 +4,7 @@ ghost use Rattle.bucket_table.specs.Rehash.State.{first_tickets};
 ghost use Rattle.std.specs.Iterator.{YieldsFirst, item_count};
 ghost use Rattle.bucket_table.specs.Map.Counting.{counted_to};
 ghost use Rattle.bucket_table.specs.Views.ArraysView.{pairs_of};
-ghost use Rattle.bucket_table.specs.Walking.Drains.{FreesSlots};
+ghost use Rattle.bucket_table.specs.Walking.Drains.{FreesSlots, emptied};
 ghost use Rattle.bucket_table.specs.Walking.Row.{pairs_from, row_of};
 ghost use Rattle.bucket_slots.specs.ArrayView.{bucket_at};
 ghost use Rattle.bucket_slots.specs.BucketView.{slot_in};
@@ -29,6 +29,16 @@ impl<K: Drop, V: Drop, L: LruList + Drop, const TYPE: u8> Arrays<K, V, L, TYPE> 
     {
         self.current = None;
         self.linked = OldArray::none();
+    }
+
+    /// Makes the buckets of the current array empty, and drops the old array and the tickets.
+    pub(crate) fn empty_slots(&mut self)
+        ensures { self.new ≡ emptied self.old }
+    {
+        self.linked = OldArray::none();
+        if let Some(array) = &mut self.current {
+            array.clear(self.alloc);
+        }
     }
 }
 

@@ -9,6 +9,7 @@ ghost use Rattle.bucket_table.specs.Rehash.Units.{WorksUnits};
 ghost use Rattle.bucket_slots.specs.ArrayView.{bucket_at};
 ghost use Rattle.bucket_slots.specs.BucketView.{pairs_in};
 ghost use Rattle.bucket_slots.specs.Walking.{CallsEach};
+ghost use Rattle.bucket_table.specs.Walking.Drains.{emptied};
 ghost use Rattle.bucket_table.specs.Walking.Row.{row_of};
 ghost use Rattle.bucket_slots.specs.Marking.{MarksBy};
 ghost use Rattle.bucket_table.specs.Views.Settings.{KeepsSettings};
@@ -147,6 +148,18 @@ impl<K: Eq + Drop, V: Drop, H: KeyHash<K>, L: LruList + Drop, const TYPE: u8> Ha
             ≡ record self.old.arrays { current = []; linked = []; tickets = first_tickets 0 } }
     {
         self.arrays.clear();
+        self.count = PairCount::new(0);
+    }
+
+    /// Drops all pairs and tombstones, and the old array, with which open tickets end. The hasher,
+    /// the capacities and the slots of the current array stay.
+    ///
+    /// Allocates at most digests and never fails. O(pairs, and buckets).
+    pub fn empty_slots(&mut self)
+        ensures hasher { self.new.hasher ≡ self.old.hasher }
+        ensures arrays { self.new.arrays ≡ emptied self.old.arrays }
+    {
+        self.arrays.empty_slots();
         self.count = PairCount::new(0);
     }
 }

@@ -150,11 +150,23 @@ const STORIES: &[Story] = steps! {
             Expect(Value(255, Some(255))), Remove(254, false), Resize(ShrinkToFit),
             Expect(Slots(64)), Expect(Value(255, Some(255))), Expect(Len(1)),
             Resize(RaiseMinimum(MOST, MOST)), Expect(Slots(64)), Resize(RaiseMinimum(1, 0)) } },
-    Story { name: "a cleared index keeps its minimum", hasher: ScriptHash::Spread, capacity: 100,
+    Story { name: "a cleared index keeps its slots", hasher: ScriptHash::Spread, capacity: 100,
         steps: steps! {
-            InsertRange(0..40), Expect(Slots(128)), Remove(5, true), Clear, Expect(Len(0)),
-            Expect(Slots(0)), Expect(Value(6, None)), Remove(6, false), Clear, Insert(5, 6),
-            Expect(Slots(128)), Expect(Len(1)), Expect(Value(5, Some(6))) } }
+            Clear, Expect(Slots(0)), InsertRange(0..40), Expect(Slots(128)), Remove(5, true), Clear,
+            Expect(Len(0)), Expect(Slots(128)), Expect(Value(6, None)), Remove(6, false), Clear,
+            Insert(5, 6), Expect(Slots(128)), Expect(Len(1)), Expect(Value(5, Some(6))) } },
+    Story { name: "an index that is cleared during a growth is filled again",
+        hasher: ScriptHash::Spread, capacity: 0, steps: steps! {
+            InsertRange(0..31), InsertRange(128..159), Insert(31, 31), Remove(5, true), Clear,
+            Expect(Len(0)), Expect(Slots(128)), Expect(Value(5, None)), Expect(Value(158, None)),
+            Insert(5, 50), Expect(Value(5, Some(50))), InsertRange(6..32), InsertRange(128..159),
+            Expect(Len(58)), Expect(Value(158, Some(158))), Expect(Slots(128)) } },
+    Story { name: "an index of many buckets is cleared and filled again",
+        hasher: ScriptHash::Spread, capacity: 4096, steps: steps! {
+            InsertRange(0..200), RemoveRange(100..150), Clear, Expect(Len(0)), Expect(Slots(4096)),
+            Expect(Value(0, None)), Expect(Value(120, None)), InsertRange(50..150),
+            Expect(Value(49, None)), Expect(Value(50, Some(50))), Expect(Value(149, Some(149))),
+            Expect(Len(100)), RemoveRange(50..150), Expect(Len(0)), Expect(Slots(4096)) } }
 };
 
 #[test]

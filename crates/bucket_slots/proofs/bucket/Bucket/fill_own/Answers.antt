@@ -9,13 +9,13 @@ lowest_bit-pos-requires g c = omega (arith, c.requires.some)
 
 pub put-requires : goal.put-requires
 put-requires g c =
-    let place = free_own g.row.TYPE _ _ _ c.self.view_is c.self.invariant.1 c.requires.not_index (omega arith) c.requires.mask
+    let place = free_own g.row.TYPE _ _ _ c.self.view_is c.self.invariant.1 c.requires.unmarked (omega arith) c.requires.mask
     c.lowest_bit-pos.ensures in
     (search rules, (omega (arith, c.self.invariant.1.own_long, place.1), place.2))
 
 pub invariant_of-self : goal.invariant_of-self
 invariant_of-self g c =
-    let place = free_own g.row.TYPE _ _ _ c.self.view_is c.self.invariant.1 c.requires.not_index (omega arith) c.requires.mask
+    let place = free_own g.row.TYPE _ _ _ c.self.view_is c.self.invariant.1 c.requires.unmarked (omega arith) c.requires.mask
     c.lowest_bit-pos.ensures in (
       c.self.invariant.0,
       rw c.put.ensures
@@ -24,11 +24,11 @@ invariant_of-self g c =
 
 pub returns-clause-place : goal.returns-clause-place
 returns-clause-place g c =
-    rw (← c.self.view_is) (free_own g.row.TYPE _ _ _ c.self.view_is c.self.invariant.1 c.requires.not_index (omega arith) c.requires.mask
+    rw (← c.self.view_is) (free_own g.row.TYPE _ _ _ c.self.view_is c.self.invariant.1 c.requires.unmarked (omega arith) c.requires.mask
     c.lowest_bit-pos.ensures).0
 
 pub returns-clause-slots : goal.returns-clause-slots
 returns-clause-slots g c =
-    let place = free_own g.row.TYPE _ _ _ c.self.view_is c.self.invariant.1 c.requires.not_index (omega arith) c.requires.mask
+    let place = free_own g.row.TYPE _ _ _ c.self.view_is c.self.invariant.1 c.requires.unmarked (omega arith) c.requires.mask
     c.lowest_bit-pos.ensures in
     rw (c.put.ensures, ← c.self.view_is) (sym (put_in_own _ _ c.args.pair c.args.byte place.0))

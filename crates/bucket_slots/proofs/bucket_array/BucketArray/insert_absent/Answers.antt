@@ -20,7 +20,8 @@ pub returns-clause-put : goal.returns-clause-put
 returns-clause-put g c =
     rw (← c.self.view_is) (c.fill-pos.ensures.slots
     ∙ ap (set c.self.inside.buckets c.args.index) (sym (after_put g.row.TYPE (g.G.Generation.keeps c.args.generation.now)
-    (bucket_at c.self.inside.buckets c.args.index) (c.args.key, c.args.value) (c.args.hash % 256) c.if-this-eq-INDEX.false)))
+    (bucket_at c.self.inside.buckets c.args.index) (c.args.key, c.args.value) (c.args.hash % 256)
+    (rw (← c.get.ensures) (sym c.has_marks.ensures ∙ c.if-has_marks.false)))))
 
 pub returns-in-Some-find_among-clause-answer : goal.returns-in-Some-find_among-clause-answer
 returns-in-Some-find_among-clause-answer g c =
