@@ -16,8 +16,6 @@ mod replies;
 mod request;
 mod session;
 mod stop;
-#[cfg(test)]
-mod tests;
 
 use crate::lines::{Found, Lines};
 use crate::output::report;
