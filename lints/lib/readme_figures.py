@@ -77,7 +77,7 @@ def random_calls(root):
 
 def compare_counts(text, root):
     compare_lines(text, root)
-    edits = len(list(root.glob("crates/*/must-fail/*.edit")))
+    edits = len(list(root.glob("crates/*/wrong_bodies/*.edit")))
     compare_exact("wrong bodies", re.findall(EDITS, text), [edits, edits])
     compare_exact("random calls", found(CALLS, text), random_calls(root))
     for file, pattern in (
