@@ -10,7 +10,10 @@ use std::io::{BufRead, BufReader};
 use stock::Stock;
 
 fn main(rt: HostRuntime) -> io::Result<()> {
-    let mut stock = Stock::new(rt.alloc());
+    answer_lines(&rt, &mut Stock::new(rt.alloc()))
+}
+
+fn answer_lines(rt: &HostRuntime, stock: &mut Stock) -> io::Result<()> {
     for line in BufReader::new(rt.alloc(), rt.reader())?.lines(rt.alloc()) {
         let reply = stock.answer(rt.alloc(), line?.as_str())?;
         println!(rt; "{reply}")?;
