@@ -81,7 +81,7 @@ def compare_counts(text, root):
     compare_exact("wrong bodies", re.findall(EDITS, text), [edits, edits])
     compare_exact("random calls", found(CALLS, text), random_calls(root))
     for file, pattern in (
-        ("bindings/cpp/tests/random.cpp", r"constexpr int calls = (\d+);"),
+        ("bindings/cpp/tests/random.cpp", r"std::atoi\(said\) : (\d+);"),
         ("bindings/rust/tests/common/mod.rs", r"unwrap_or\(([\d_]+)\)"),
         ("bindings/python/tests/test_chance.py", r'CALLS = int\(os.environ.get\("BUCKET_CALLS", "(\d+)"\)\)'),
     ):

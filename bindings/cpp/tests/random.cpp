@@ -1,7 +1,9 @@
-// 200,000 random calls on a map, a set and a cache, checked against std's, with values that are counted.
+// 200,000 random calls on a map, a set and a cache, or as many as BUCKET_CALLS says, checked against std's, with
+// values that are counted.
 #include "bucket.hpp"
 #include "check.hpp"
 
+#include <cstdlib>
 #include <unordered_map>
 #include <unordered_set>
 
@@ -10,7 +12,12 @@ using tests::counted;
 
 namespace {
 
-constexpr int calls = 200000;
+int number_of_calls() {
+    const char *said = std::getenv("BUCKET_CALLS");
+    return said ? std::atoi(said) : 200000;
+}
+
+const int calls = number_of_calls();
 constexpr int range = 5000;
 
 template <class K> K key_at(int i) {
@@ -77,7 +84,7 @@ template <class K> void call_map(chance &by, bucket::map<K, counted> &map, std::
         break;
     default:
         if (by.below(2000) == 0) {
-            int bound = static_cast<int>(by.below(calls));
+            int bound = static_cast<int>(by.below(static_cast<unsigned long long>(calls)));
             for (auto it = beside.begin(); it != beside.end();) {
                 it = it->second < bound ? beside.erase(it) : std::next(it);
             }

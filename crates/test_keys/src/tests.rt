@@ -1,9 +1,7 @@
 //! Tests of what no clause states, with keys and values of many types: keys looked up in another
 //! form and made of it, hashers that differ, keys in the order of another collection's slots,
-//! values that are dropped once, random calls compared with a map of the standard library, and
-//! calls that other libraries have.
+//! values that are dropped once, and calls that other libraries have.
 mod borrowed_keys;
-mod by_chance;
 mod cache_drops;
 mod drops;
 mod emptied;
