@@ -268,6 +268,5 @@ impl<K: Eq, V, H: KeyHash<K>, L: LruList, const TYPE: u8> HashTable<K, V, H, L, 
         ensures beside { 0 < length self.now.arrays.linked → 0 < length self.now.arrays.current }
     {
         self.arrays.fact_sound();
-        let _len = self.arrays.len();
     }
 }

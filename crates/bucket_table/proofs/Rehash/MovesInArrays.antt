@@ -77,6 +77,7 @@ module _ {K V : Type 0} (minimum maximum index : ℕ) (c l d m : List (BucketVie
         maximum_power = was.maximum_power;
         bounded = was.bounded;
         within = let fits = was.within in omega (arith, fits, current);
+        long = λ some. rw current (was.long (omega (arith, some, current)));
         beside = λ some. let stands = was.beside (omega (arith, some, linked)) in omega (arith, stands, current);
         tickets_len = was.tickets_len ∙ sym linked;
       }

@@ -3,19 +3,21 @@ use Rattle.bucket_table.proofs.Words.{All, AreArrays, ArraysView, BucketView, Is
 use Rattle.bucket_table.proofs.Words.{cases_lt, first_tickets, inl, inr, length, refl, ◌*◌, ◌<◌, ◌∙◌, ◌∷◌, ◌≡◌, ◌≤◌}
 use Rattle.bucket_table.specs.Rehash.Finishing.{IsUnopened}
 use Rattle.bucket_table.specs.Rehash.State.{IsTicketState}
+use Rattle.bucket_slots.specs.Sizing.{IsLength}
 use Rattle.bucket_slots.proofs.ArrayNumbers.{len_fits}
 
 module _ {K V : Type 0} (capacity minimum maximum : ℕ) (current linked fresh next : List (BucketView K V))
     (tickets after : TicketState) where
   pub fresh_fits : AreArrays (record { minimum = minimum; maximum = maximum; current = current; linked = linked; tickets = tickets })
-      → capacity ≤ maximum → IsNewArray capacity fresh → after.len ≡ length next
+      → capacity ≤ maximum → IsNewArray capacity fresh → IsLength (length fresh) → after.len ≡ length next
       → AreArrays (record { minimum = minimum; maximum = maximum; current = fresh; linked = next; tickets = after })
-  fresh_fits arrays fits new same_len =
+  fresh_fits arrays fits new long same_len =
       let (least, is, len_is) = new.len in
       record {
         maximum_power = arrays.maximum_power;
         bounded = arrays.bounded;
         within = len_fits capacity maximum (length fresh) arrays.maximum_power.power arrays.maximum_power.at_least fits new.len;
+        long = λ some. long;
         beside = λ some. omega arith;
         tickets_len = same_len;
       }

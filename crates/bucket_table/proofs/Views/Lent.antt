@@ -1,6 +1,12 @@
 -- Arrays whose current array becomes the old one.
-use Rattle.bucket_table.proofs.Words.{ArraysView, BucketView, List, Option, Some, TicketState, ℕ, first_tickets, length, list_of, refl}
-use Rattle.bucket_table.proofs.Words.{◌≡◌}
+use Rattle.std.specs.Option.{IsSome}
+use Rattle.bucket_table.proofs.Words.{ArraysView, BucketView, List, None, Option, Some, TicketState, arith, first_tickets, length, list_of}
+use Rattle.bucket_table.proofs.Words.{refl, ℕ, ◌<◌, ◌≡◌}
+
+-- an array with a bucket is there
+pub some_held : {A : Type 0} (held : Option (List A)) → 0 < length (list_of held) → IsSome held
+some_held None some = absurd (omega arith)
+some_held (Some xs) some = refl
 
 module _ {K V : Type 0} (minimum maximum : ℕ) (other : List (BucketView K V)) (held : Option (List (BucketView K V)))
     (tickets : TicketState) where

@@ -4,7 +4,7 @@ use Rattle.std.specs.List.{All, Contains, IsDistinct}
 use Rattle.bucket_slots.specs.ArrayView.{bucket_at}
 use Rattle.bucket_slots.specs.BucketView.{BucketView, pairs_in}
 use Rattle.bucket_slots.specs.Homes.{Meets}
-use Rattle.bucket_slots.specs.Sizing.{IsPowerIn}
+use Rattle.bucket_slots.specs.Sizing.{IsLength, IsPowerIn}
 use Rattle.bucket_table.specs.Rehash.Relocation.{AreTwoArrays, entries_among, marks_among}
 use Rattle.bucket_table.specs.Rehash.State.{TicketState}
 use Rattle.bucket_table.specs.Rehash.Covered.{IsCovered}
@@ -44,12 +44,13 @@ pub record LosesNoUnit {K V : Type 0} (linked : List (BucketView K V)) (tickets 
   pub going_on : 0 < length linked → (64 * tickets.position < tickets.len) ⊎ ((unit : ℕ) × Contains tickets.open_units unit)
   pub emptied : All (λ bucket. bucket.killed ≡ true → pairs_in bucket ≡ []) linked
 
--- the capacities bound each other and the current array, an old array has a current one beside it, and the tickets are those of the old
--- one; the content of a bucket isn't restricted, since buckets are lent for writing
+-- the capacities bound each other and the current array, which has the length of an array if there is one, an old array has a current one
+-- beside it, and the tickets are those of the old one; the content of a bucket isn't restricted, since buckets are lent for writing
 pub record AreArrays {K V : Type 0} (arrays : ArraysView K V) : Type 0 where
   pub maximum_power : IsPowerIn 64 (2 ^ 63) arrays.maximum
   pub bounded : arrays.minimum ≤ arrays.maximum
   pub within : 32 * length arrays.current ≤ arrays.maximum
+  pub long : 0 < length arrays.current → IsLength (length arrays.current)
   pub beside : 0 < length arrays.linked → 0 < length arrays.current
   pub tickets_len : arrays.tickets.len ≡ length arrays.linked
 

@@ -140,7 +140,7 @@ impl<K, V, L: LruList, const TYPE: u8> OldArray<K, V, L, TYPE> {
     }
 
     /// States that the tickets are within their bounds; does nothing at run time.
-    pub(super) fn fact_sound(&self)
+    pub(super) fn fact_tickets(&self)
         ensures { IsTicketState self.now.tickets }
     {
         if let Some(rehash) = &self.rehash {

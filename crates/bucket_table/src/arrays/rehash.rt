@@ -192,6 +192,7 @@ impl<K: Eq + Drop, V: Drop, L: LruList + Drop, const TYPE: u8> Arrays<K, V, L, T
         ensures rehashed { RehashesTo capacity self.old result self.new }
     {
         self.fact_sound();
+        self.fact_tickets();
         self.reset_tickets();
         self.finish_rehash(hasher)?;
         if self.len() == len_for(capacity) {

@@ -241,14 +241,16 @@ impl<K: Drop, V: Drop, L: LruList + Drop, const TYPE: u8> Arrays<K, V, L, TYPE> 
     ///
     /// Allocation failed: there is still no array.
     #[inline(never)]
-    fn make_first_array(&mut self, capacity: usize) -> Result<(), AllocError>
+    pub(super) fn make_first_array(&mut self, capacity: usize) -> Result<(), AllocError>
         requires none { length self.old.current ≡ 0 }
         requires capacity { capacity ≤ self.old.maximum }
         ensures fresh { OnOk result (IsNewArray capacity self.new.current) }
         ensures others { OnOk result (self.new ≡ record self.old { current = self.new.current }) }
         ensures unchanged { OnErr result (self.new ≡ self.old) }
     {
-        self.current = Some(BucketArray::alloc(self.alloc, capacity)?);
+        let fresh = BucketArray::alloc(self.alloc, capacity)?;
+        fresh.fact_room();
+        self.current = Some(fresh);
         current_in(&mut self.current).start_digests(self.alloc);
         Ok(())
     }
@@ -265,6 +267,7 @@ impl<K: Drop, V: Drop, L: LruList + Drop, const TYPE: u8> Arrays<K, V, L, TYPE> 
         ensures unchanged { OnErr result (self.new ≡ self.old) }
     {
         self.fact_sound();
+        self.fact_tickets();
         if self.has_current() {
             self.push_array(capacity)
         } else {
@@ -344,10 +347,12 @@ impl<K: Drop, V: Drop, L: LruList + Drop, const TYPE: u8> Arrays<K, V, L, TYPE> 
         ensures unchanged { OnErr result (self.new ≡ self.old) }
     {
         self.fact_sound();
+        self.fact_tickets();
         let Ok(tickets) = Tickets::new(self.alloc, self.len()) else {
             return Err(AllocError);
         };
         let mut fresh = BucketArray::alloc(self.alloc, capacity)?;
+        fresh.fact_room();
         let array = self.current.take().unwrap();
         match OldArray::new(self.alloc, array, tickets) {
             Ok(mut old) => {

@@ -223,6 +223,7 @@ impl<K: Eq + Drop, V: Drop, H: KeyHash<K>, L: LruList + Drop, const TYPE: u8> Ha
         ensures none { length self.old.arrays.linked ≡ 0 → result ≡ Err NotOpen }
     {
         self.arrays.fact_sound();
+        self.arrays.fact_tickets();
         self.arrays.end_incremental_rehash(ticket, success)
     }
 
@@ -254,6 +255,7 @@ impl<K: Eq + Drop, V: Drop, H: KeyHash<K>, L: LruList + Drop, const TYPE: u8> Ha
         ensures none_open { IsUnopened self.new.arrays }
     {
         self.arrays.fact_sound();
+        self.arrays.fact_tickets();
         self.arrays.finish_rehash(&self.hasher)
     }
 }

@@ -20,6 +20,7 @@ invariant_of-self g c = rw c.none.ensures (record {
   maximum_power = c.self.invariant.maximum_power;
   bounded = c.self.invariant.bounded;
   within = c.self.invariant.within;
+  long = c.self.invariant.long;
   beside = λ some. absurd (omega arith);
   tickets_len = refl;
 })

@@ -67,7 +67,7 @@ returns-clause-passes g c = λ bound begins.
 pub returns-clause-found : goal.returns-clause-found
 returns-clause-found g c = record {
   none = λ nothing. ends (g.H.KeyHash.hash_of c.args.hasher.now) c.args.self.now c.loop-index.self c.args.start c.loop-index.index
-      c.loop-index.at c.loop-index.invariant.0 (g.met.H.KeyHash.fits c.args.hasher.now) c.fact_sound.ensures.arrays
+      c.loop-index.at c.loop-index.invariant.0 (g.met.H.KeyHash.fits c.args.hasher.now) c.fact_sound.ensures
       (λ some. subst IsLength c.len.ensures.value (c.len.ensures.power (omega (arith, some, c.len.ensures.value)))) (omega
       (arith, c.loop-index-test.false, c.len.ensures.value));
   null = c.loop-index.invariant.0.null;

@@ -14,7 +14,7 @@ returns-then-index-len-clause-kept g c = kept_none c.args.self.now
 pub returns-then-now-eq0-clause-found : goal.returns-then-now-eq0-clause-found
 returns-then-now-eq0-clause-found g c = record {
   none = λ nothing. subst (HasNoneFrom (g.H.KeyHash.hash_of c.args.hasher.now) (bound_of c.args.len (c.args.index + 1)))
-      (sym (no_map c.args.self.now c.fact_sound.ensures.arrays (sym c.len-now.ensures.value ∙ c.if-now-eq0.true))) tt;
+      (sym (no_map c.args.self.now c.fact_sound.ensures (sym c.len-now.ensures.value ∙ c.if-now-eq0.true))) tt;
   null = c.null.ensures;
 }
 

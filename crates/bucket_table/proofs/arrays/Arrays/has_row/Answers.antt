@@ -4,4 +4,4 @@ use Rattle.bucket_table.proofs.arrays.Arrays.has_row.Goals as goal
 
 pub returns-clause-none : goal.returns-clause-none
 returns-clause-none g c = λ none.
-    no_row c.args.self.now c.fact_sound.ensures.arrays (λ some. false≢true (sym none ∙ c.has_current.ensures.1 some))
+    no_row c.args.self.now c.fact_sound.ensures (λ some. false≢true (sym none ∙ c.has_current.ensures.1 some))

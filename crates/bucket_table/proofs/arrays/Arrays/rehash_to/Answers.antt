@@ -14,7 +14,7 @@ returns-in_err-finish_rehash-clause-rehashed g c =
     (begun_keeps c.args.self.now _ c.finish_rehash.new.self c.reset_tickets.ensures e.kept) c.from_residual.result e.none_open
     (refused _ c.from_residual.result c.from_residual.ensures.0)
     (λ there. absurd (not_refused c.args.capacity c.args.self.now _ c.finish_rehash.new.self c.reset_tickets.ensures
-    c.fact_sound.ensures.tickets c.fact_sound.ensures.arrays c.finish_rehash.result 0 e.alone _ c.in_err-finish_rehash.was there))
+    c.fact_tickets.ensures c.fact_sound.ensures c.finish_rehash.result 0 e.alone _ c.in_err-finish_rehash.was there))
     (at_error _ c.from_residual.result (λ len. matches))
 
 pub returns-then-len-len_for-clause-rehashed : goal.returns-then-len-len_for-clause-rehashed
@@ -27,7 +27,7 @@ returns-then-len-len_for-clause-rehashed g c =
     (λ there. (
       refl,
       still c.args.capacity c.args.self.now _ c.finish_rehash.new.self c.reset_tickets.ensures
-          c.fact_sound.ensures.tickets c.fact_sound.ensures.arrays c.finish_rehash.result 0 e.alone there,
+          c.fact_tickets.ensures c.fact_sound.ensures c.finish_rehash.result 0 e.alone there,
     )) tt
 
 pub returns-in_err-remake_array-clause-rehashed : goal.returns-in_err-remake_array-clause-rehashed

@@ -7,7 +7,7 @@ use Rattle.bucket_table.proofs.arrays.Arrays.shrink_to.Goals as goal
 pub push_array-requires : goal.push_array-requires
 push_array-requires g c =
     let asks = c.asks_shrinking.ensures.0 c.if-not-asks_shrinking.false in
-    let most = c.fact_sound.ensures.arrays in (
+    let most = c.fact_sound.ensures in (
       omega arith,
       (
         asks.some,

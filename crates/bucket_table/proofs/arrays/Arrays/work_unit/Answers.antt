@@ -14,7 +14,7 @@ relocate_unit-success-requires g c =
     let same = ap (λ a. length a.linked) c.in-Some.ensures.others in (
       search rules,
       (
-        omega (arith, left, handed, same, c.fact_sound.ensures.arrays.tickets_len),
+        omega (arith, left, handed, same, c.fact_sound.ensures.tickets_len),
         placed_start (g.H.KeyHash.hash_of c.args.hasher.now) c.args.self.now _ (Some c.in-Some.ticket) h c.in-Some.ensures.others
             c.requires.placed,
       ),
@@ -39,20 +39,20 @@ returns-clause-units g c =
     let w = rw c.in-Some.ensures.others at c.relocate_unit-success.ensures.worked in
     let spends = rw c.in-Some.ensures.others at c.relocate_unit-success.ensures.spends in
     unit_runs c.args.self.now _ _ _ c.in-Some.ticket c.relocate_unit-success.result h w c.end_incremental_rehash.result
-    c.fact_sound.ensures.arrays.tickets_len spends
+    c.fact_sound.ensures.tickets_len spends
     (λ needs. range_spared _ _ _ _ _ c.relocate_unit-success.ensures.wanted
     (rw c.in-Some.ensures.others (easy_handed c.args.self.now _ c.in-Some.ticket h needs)))
     (rw c.in-Some.ensures.others at c.relocate_unit-success.ensures.only) c.end_incremental_rehash.ensures.rehash
 
 pub returns-clause-alone : goal.returns-clause-alone
-returns-clause-alone g c = λ alone. absurd (none_handed c.args.self.now c.in-Some.ticket _ c.fact_sound.ensures.arrays.tickets_len
+returns-clause-alone g c = λ alone. absurd (none_handed c.args.self.now c.in-Some.ticket _ c.fact_sound.ensures.tickets_len
     alone c.in-Some.ensures.tickets)
 
 pub returns-clause-finishes : goal.returns-clause-finishes
 returns-clause-finishes g c =
     let h = c.in-Some.ensures.tickets in
     let w = rw c.in-Some.ensures.others at c.relocate_unit-success.ensures.worked in
-    finishes c.args.self.now _ _ _ c.in-Some.ticket c.relocate_unit-success.result h w c.fact_sound.ensures.arrays.tickets_len
+    finishes c.args.self.now _ _ _ c.in-Some.ticket c.relocate_unit-success.result h w c.fact_sound.ensures.tickets_len
     c.requires.placed.rehashed.covered (λ failed. rw c.in-Some.ensures.others at c.relocate_unit-success.ensures.wanted failed)
     c.end_incremental_rehash.result c.end_incremental_rehash.ensures.rehash
 

@@ -28,5 +28,5 @@ returns-clause-marks g c =
 
 pub returns-clause-none : goal.returns-clause-none
 returns-clause-none g c = rw (← c.self.view_is) (λ none.
-    let unopened = none_open c.self.inside.arrays.tickets c.fact_sound.ensures.tickets (c.fact_sound.ensures.arrays.tickets_len ∙ none) in
+    let unopened = none_open c.self.inside.arrays.tickets c.fact_tickets.ensures (c.fact_sound.ensures.tickets_len ∙ none) in
     not_open _ _ c.args.ticket c.args.success c.end_incremental_rehash.result unopened c.end_incremental_rehash.ensures.rehash)

@@ -19,4 +19,4 @@ pub returns-clause-empty : goal.returns-clause-empty
 returns-clause-empty g c =
     let e = c.fetch_home-is_ready.ensures in
     empty_without c.self.inside.arrays c.fetch_home-is_ready.new.self c.fetch_home-is_ready.result e.missing e.kept.current_len
-    c.fact_sound.ensures.arrays
+    c.fact_sound.ensures

@@ -17,7 +17,7 @@ finish_rehash-requires g c = (
   search rules,
   (
     c.self.invariant.one_map.placed,
-    unopened c.self.inside.arrays c.fact_sound.ensures.arrays c.fact_sound.ensures.tickets
+    unopened c.self.inside.arrays c.fact_sound.ensures c.fact_tickets.ensures
         (rw (← c.self.view_is) at c.requires.none_open),
   ),
 )

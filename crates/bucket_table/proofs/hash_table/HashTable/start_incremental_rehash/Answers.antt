@@ -20,5 +20,5 @@ returns-clause-map g c = rw (← c.self.view_is, c.start_incremental_rehash.ensu
 pub returns-clause-none : goal.returns-clause-none
 returns-clause-none g c =
     rw (← c.self.view_is) (λ none. none_start c.self.inside.arrays c.start_incremental_rehash.result _
-    c.fact_sound.ensures.arrays.tickets_len
+    c.fact_sound.ensures.tickets_len
     none c.start_incremental_rehash.ensures.tickets)
