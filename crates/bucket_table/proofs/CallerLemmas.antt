@@ -2,6 +2,7 @@
 
 -- what a map and the arrays keep when pairs move and when nothing changes
 pub use Rattle.bucket_table.proofs.Map.AfterSearch.{own_kept}
+pub use Rattle.bucket_table.proofs.Map.Cloning.{distinct_made}
 pub use Rattle.bucket_table.proofs.Map.LockedChanged.{table_same}
 pub use Rattle.bucket_table.proofs.Map.MapKept.{hasher_kept, keeps_pairs, state_found}
 pub use Rattle.bucket_table.proofs.Resize.Following.{made_keeps, pushed_keeps}

@@ -22,3 +22,4 @@ pub mod TakingOn
 pub mod CountSteps
 pub mod Counted
 pub mod Rests
+pub mod Cloning

@@ -13,4 +13,5 @@ pub mod Refusing
 pub mod Taking
 pub mod Vacancies
 pub mod Free
+pub mod Cloning
 pub mod StdHashes

@@ -8,6 +8,7 @@ ghost use Rattle.bucket_table.specs.Views.Sides.{buckets_on};
 ghost use Rattle.bucket_table.specs.Rehash.State.{IsTicketState, first_tickets, word_of};
 
 mod by_use;
+mod copy;
 mod cursor;
 mod drain;
 mod lookup;

@@ -1,14 +1,18 @@
 -- A map that was empty, and into which clones of the pairs of another are inserted one after the other.
-use Rattle.std.proofs.Common.{ℕ, ◌≡◌, ◌∙◌, Bool, true, false, Option, Some, None, List, [], ◌∷◌, ◌++◌, ap, sym, subst, refl}
+use Rattle.std.proofs.Common.{ℕ, ◌≡◌, ◌∙◌, Bool, true, Option, Some, None, List, [], ◌∷◌, ◌++◌, ap, sym, subst, refl}
 use Rattle.std.specs.Prelude.{◌^◌, min}
+use Rattle.std.specs.Borrow.{Bor}
 use Rattle.std.specs.Cmp.{IsEquivalence}
-use Rattle.std.specs.List.{AllByRecursion, AllZip, FoldsTo, IsDistinct}
+use Rattle.std.specs.List.{AllZip, FoldsTo, IsDistinct}
+use Rattle.std.specs.List.Sorted.{IsPermutation}
 use Rattle.std.specs.Map.{keys_of}
 use Rattle.std.specs.Option.{IsSomeAnd, MatchOption}
 use Rattle.std.proofs.lemmas.List.{append-nil, append_assoc}
 use Rattle.std.proofs.lemmas.List.Elements.{AllZip-push, length_all_zip}
 use Rattle.std.proofs.lemmas.Map.Entries.{lookup_clone}
-use Rattle.std.proofs.lemmas.Map.Keys.{IsDistinct-cons, IsDistinct-head, IsDistinct-tail}
+use Rattle.std.proofs.lemmas.List.Sorted.{length_permutation}
+use Rattle.bucket_table.proofs.CallerLemmas.{distinct_made}
+use Rattle.bucket_table.specs.Map.Cloning.{AreMadeOf, IsMadeOf}
 use Rattle.bucket_table.specs.Resize.Resizing.{with_minimum}
 use Rattle.bucket_table.specs.Views.ArraysView.{TableView}
 use Rattle.collections.specs.Changes.{Adds, Replaces}
@@ -18,6 +22,7 @@ use Rattle.collections.specs.Loans.{Puts}
 use Rattle.collections.specs.Maps.{IsEmpty, IsUnique, MapView, get, map_of}
 use Rattle.collections.proofs.Collecting.{none_put, one_more_put}
 use Rattle.collections.proofs.Copying.{PutsOn, stays_filled}
+use Rattle.collections.proofs.Lookups.{distinct_permuted, lookup_permuted}
 use Rattle.collections.proofs.Staying.{stays_after}
 
 -- of no keys none are equal
@@ -30,32 +35,6 @@ has_pair : {A : Type 0} (front rest : List A) (x : A) → front ++ x ∷ rest �
 has_pair [] rest x e = absurd cc
 has_pair (y ∷ front) rest x e = absurd cc
 
--- two keys are different if equal keys are
-apart_too : {K : Type 0} (eq : K → K → Bool) → IsEquivalence eq → (own key other clone : K) → eq own key ≡ true
-    → eq other clone ≡ true → eq own other ≡ false → eq key clone ≡ false
-apart_too eq laws own key other clone same same_other apart =
-    sym (laws.congr own key clone same) ∙ laws.symm own clone ∙ sym (laws.congr other clone own same_other) ∙ laws.symm other own ∙ apart
-
-module _ {K V : Type 0} (eq : K → K → Bool) (IsKey : K → K → Type 0) (IsValue : V → V → Type 0) (laws : IsEquivalence eq) where
-  apart_all : (own key : K) (es fs : List (K × V)) → eq own key ≡ true → AllZip (IsClonedPair eq IsKey IsValue) es fs
-      → AllByRecursion (λ k. eq own k ≡ false) (keys_of es) → AllByRecursion (λ k. eq key k ≡ false) (keys_of fs)
-  apart_all own key [] [] same clones apart = tt
-  apart_all own key [] (f ∷ fs) same clones apart = absurd clones
-  apart_all own key (e ∷ es) [] same clones apart = absurd clones
-  apart_all own key (e ∷ es) (f ∷ fs) same clones apart =
-      (apart_too eq laws own key e.0 f.0 same clones.0.0.1 apart.0, apart_all own key es fs same clones.1 apart.1)
-
-  -- so no two clones are equal if no two keys are
-  distinct_clones : (es fs : List (K × V)) → AllZip (IsClonedPair eq IsKey IsValue) es fs → IsDistinct eq (keys_of es)
-      → IsDistinct eq (keys_of fs)
-  distinct_clones [] [] clones distinct = distinct
-  distinct_clones [] (f ∷ fs) clones distinct = absurd clones
-  distinct_clones (e ∷ es) [] clones distinct = absurd clones
-  distinct_clones (e ∷ es) (f ∷ fs) clones distinct =
-      IsDistinct-cons eq f.0 (keys_of fs)
-      (apart_all e.0 f.0 es fs clones.0.0.1 clones.1 (IsDistinct-head eq e.0 (keys_of es) distinct))
-      (distinct_clones es fs clones.1 (IsDistinct-tail eq e.0 (keys_of es) distinct))
-
 -- if the keys are absent, the pairs that are put are added
 puts_on : {K V H : Type 0} (eq : K → K → Bool) (pairs : List (K × V)) (first last : MapView K V H)
     → FoldsTo (λ before pair after. Puts eq before pair.0 pair.1 after) first pairs last
@@ -67,6 +46,20 @@ puts_on {K = K} {V = V} eq (pair ∷ pairs) first last went = (
       (λ before. (own : K) × Replaces eq first (eq pair.0) (own, before) pair.1 went.0)) absent went.1,
   puts_on eq pairs went.0 last went.2,
 )
+
+module _ {K V : Type 0} (eq : K → K → Bool) (IsKey : K → K → Type 0) (IsValue : V → V → Type 0) where
+  -- pairs that are made are clones if what makes them returns clones
+  all_clones : (post : Bor K → Bor V → Option (K × V) → Type 0)
+      → ((key : Bor K) (value : Bor V) (pair : K × V) → post key value (Some pair)
+      → IsClonedPair eq IsKey IsValue (key.now, value.now) pair)
+      → (es fs : List (K × V)) → AllZip (IsMadeOf post) es fs → AllZip (IsClonedPair eq IsKey IsValue) es fs
+  all_clones post is [] [] made = tt
+  all_clones post is [] (f ∷ fs) made = absurd made
+  all_clones post is (e ∷ es) [] made = absurd made
+  all_clones post is (e ∷ es) (f ∷ fs) made = (
+    subst (λ (p : K × V). IsClonedPair eq IsKey IsValue p f) made.0.2 (is made.0.0 made.0.1 f made.0.3),
+    all_clones post is es fs made.1,
+  )
 
 module _ {K V H : Type 0} (eq : K → K → Bool) (IsKey : K → K → Type 0) (IsValue : V → V → Type 0) where
   -- some pairs of a map are left, and clones of the others were put into another map in turn
@@ -99,36 +92,59 @@ module _ {K V H : Type 0} (eq : K → K → Bool) (IsKey : K → K → Type 0) (
     puts = one_more_put eq first mid new so_far.pairs clone so_far.puts put;
   }
 
+  -- a map with clones of all pairs, in some order
+  cloned_as : IsEquivalence eq → (IsHasher : H → H → Type 0) (own now : MapView K V H) (pairs : List (K × V))
+      → AllZip (IsClonedPair eq IsKey IsValue) own.entries pairs → IsUnique eq own → IsPermutation pairs now.entries
+      → IsHasher own.hasher now.hasher → now.minimum ≡ min own.minimum (2 ^ 63) → now.maximum ≡ 2 ^ 63
+      → IsClone eq IsKey IsValue IsHasher own now
+  cloned_as laws IsHasher own now pairs clones unique moved copied minimum maximum =
+      let IsPair = IsClonedPair eq IsKey IsValue in
+      let distinct = distinct_made eq laws IsPair (λ x y clone. clone.0.1) own.entries pairs clones unique in
+      let IsSame : K → K → Type 0 = λ x y. IsKey x y × (eq x y ≡ true) in
+      record {
+        pairs = pairs;
+        clones = clones;
+        entries = moved;
+        len = length_permutation pairs now.entries moved ∙ sym (length_all_zip IsPair own.entries pairs clones);
+        gets = λ key. subst (λ (o : Option V). MatchOption (get eq own key) (o ≡ None) (λ value. IsSomeAnd o (IsValue value)))
+            (sym (lookup_permuted eq laws key pairs now.entries distinct moved)) (lookup_clone IsSame IsValue (eq key)
+            (λ x y same. laws.symm key y ∙ sym (laws.congr x y key same.1) ∙ laws.symm x key) own.entries pairs clones);
+        unique = distinct_permuted eq laws pairs now.entries moved distinct;
+        hasher = copied;
+        minimum = minimum;
+        maximum = maximum;
+      }
+
   -- if none is left, the other map has clones of all
-  pub cloned : IsEquivalence eq → (IsHasher : H → H → Type 0) (own first now : MapView K V H) (left : List (K × V)) (hasher clone : H)
-      → IsCloning own first now left → left ≡ [] → IsUnique eq own → IsEmpty first → hasher ≡ own.hasher → IsHasher hasher clone
+  pub cloned : IsEquivalence eq → (IsHasher : H → H → Type 0) (own first now : MapView K V H) (left : List (K × V)) (clone : H)
+      → IsCloning own first now left → left ≡ [] → IsUnique eq own → IsEmpty first → IsHasher own.hasher clone
       → first.hasher ≡ clone → first.minimum ≡ min own.minimum (2 ^ 63) → first.maximum ≡ 2 ^ 63
       → IsClone eq IsKey IsValue IsHasher own now
-  cloned laws IsHasher own first now left hasher clone so_far over unique empty hasher_is copied made minimum maximum =
+  cloned laws IsHasher own first now left clone so_far over unique empty copied made minimum maximum =
       let pairs = so_far.pairs in
       let whole : so_far.seen ≡ own.entries =
       sym (so_far.all ∙ ap (λ (l : List (K × V)). so_far.seen ++ l) over ∙ append-nil so_far.seen) in
       let clones : AllZip (IsClonedPair eq IsKey IsValue) own.entries pairs =
       subst (λ (l : List (K × V)). AllZip (IsClonedPair eq IsKey IsValue) l pairs) whole so_far.clones in
-      let distinct = distinct_clones eq IsKey IsValue laws own.entries pairs clones unique in
+      let distinct =
+      distinct_made eq laws (IsClonedPair eq IsKey IsValue) (λ x y clone. clone.0.1) own.entries pairs clones unique in
       let filled = stays_filled eq laws pairs first so_far.puts.between distinct empty
       (puts_on eq pairs first so_far.puts.between so_far.puts.in_turn) in
       let stays = stays_after eq (record first { entries = pairs }) so_far.puts.between now filled so_far.puts.stays in
-      let IsSame : K → K → Type 0 = λ x y. IsKey x y × (eq x y ≡ true) in
-      record {
-        pairs = pairs;
-        clones = clones;
-        entries = stays.entries;
-        len = stays.len ∙ sym (length_all_zip (IsClonedPair eq IsKey IsValue) own.entries pairs clones);
-        gets = λ key. subst (λ (o : Option V). MatchOption (get eq own key) (o ≡ None) (λ value. IsSomeAnd o (IsValue value)))
-            (sym (stays.gets key)) (lookup_clone IsSame IsValue (eq key)
-            (λ x y same. laws.symm key y ∙ sym (laws.congr x y key same.1) ∙ laws.symm x key) own.entries pairs clones);
-        unique = stays.kept.unique;
-        hasher = subst (λ (h : H). IsHasher h now.hasher) hasher_is
-            (subst (λ (h : H). IsHasher hasher h) (sym (stays.kept.hasher ∙ made)) copied);
-        minimum = stays.kept.minimum ∙ minimum;
-        maximum = stays.kept.maximum ∙ maximum;
-      }
+      cloned_as laws IsHasher own now pairs clones unique stays.entries
+      (subst (λ (h : H). IsHasher own.hasher h) (sym (stays.kept.hasher ∙ made)) copied) (stays.kept.minimum ∙ minimum)
+      (stays.kept.maximum ∙ maximum)
+
+  -- a map whose pairs are clones
+  pub cloned_slots : IsEquivalence eq → (IsHasher : H → H → Type 0) (post : Bor K → Bor V → Option (K × V) → Type 0)
+      (own now : MapView K V H) (hasher : H)
+      → ((key : Bor K) (value : Bor V) (pair : K × V) → post key value (Some pair)
+      → IsClonedPair eq IsKey IsValue (key.now, value.now) pair)
+      → AreMadeOf post own.entries now.entries → IsUnique eq own → IsHasher own.hasher hasher → now.hasher ≡ hasher
+      → now.minimum ≡ min own.minimum (2 ^ 63) → now.maximum ≡ 2 ^ 63 → IsClone eq IsKey IsValue IsHasher own now
+  cloned_slots laws IsHasher post own now hasher is made unique copied same minimum maximum =
+      cloned_as laws IsHasher own now made.pairs (all_clones eq IsKey IsValue post is own.entries made.pairs made.made) unique made.all
+      (rw same copied) minimum maximum
 
   -- in a table with another minimum
   pub lowered : (IsHasher : H → H → Type 0) (own : MapView K V H) (t s : TableView K V H) (first left : ℕ)

@@ -1,15 +1,18 @@
 -- A map that was empty, and into which each pair of another is put, has those pairs.
-use Rattle.std.proofs.Common.{ℕ, suc, ◌≡◌, ◌∙◌, Bool, false, Option, Some, None, List, [], ◌∷◌, ◌++◌, ap, arith}
+use Rattle.std.proofs.Common.{ℕ, suc, ◌≡◌, ◌∙◌, Bool, false, Option, Some, None, List, [], ◌∷◌, ◌++◌, ap, arith, subst}
 use Rattle.std.specs.Prelude.{◌^◌, min}
+use Rattle.std.specs.Borrow.{Bor}
 use Rattle.std.specs.Cmp.{IsEquivalence}
 use Rattle.std.specs.List.{All, FoldsTo, IsDistinct}
 use Rattle.std.specs.List.Sorted.{IsPermutation}
 use Rattle.std.specs.Map.{keys_of}
 use Rattle.std.proofs.lemmas.List.{append-nil}
+use Rattle.std.proofs.lemmas.List.Elements.{same_from_all_zip}
 use Rattle.std.proofs.lemmas.List.Sorted.{All-permutation, IsPermutation-cons, IsPermutation-middle, IsPermutation-refl}
 use Rattle.std.proofs.lemmas.List.Sorted.{IsPermutation-sym, IsPermutation-trans, length_permutation}
 use Rattle.std.proofs.lemmas.Map.{lookup-none}
 use Rattle.std.proofs.lemmas.Map.Entries.{none_past_head}
+use Rattle.bucket_table.specs.Map.Cloning.{AreMadeOf, IsMadeOf}
 use Rattle.collections.specs.Changes.{Adds, Stays}
 use Rattle.collections.specs.Copies.{BecomesOrGoes, IsCopy}
 use Rattle.collections.specs.Maps.{IsEmpty, IsUnique, MapView, get}
@@ -78,23 +81,37 @@ module _ {K V H : Type 0} (eq : K → K → Bool) where
               all.1 ∙ (λ i. (added.kept.hasher i, added.kept.minimum i, added.kept.maximum i)),
             )
 
+    -- a map stays if its pairs are only in another order
+    stays_moved : (own new : MapView K V H) → IsUnique eq own → IsPermutation own.entries new.entries → settings new ≡ settings own
+        → Stays eq own new
+    stays_moved own new distinct moved same = record {
+      entries = moved;
+      len = length_permutation own.entries new.entries moved;
+      gets = λ q. lookup_permuted eq laws q own.entries new.entries distinct moved;
+      kept = record {
+        unique = distinct_permuted eq laws own.entries new.entries moved distinct;
+        hasher = ap (λ s. s.0) same;
+        minimum = ap (λ s. s.1) same;
+        maximum = ap (λ s. s.2) same;
+      };
+    }
+
     -- so they are all pairs of a map that was empty
     pub stays_filled : (pairs : List (K × V)) (old new : MapView K V H) → IsDistinct eq (keys_of pairs) → IsEmpty old
         → FoldsTo PutsOn (Some old) pairs (Some new) → Stays eq (record old { entries = pairs }) new
     stays_filled pairs old new distinct empty went =
         let all = filled pairs [] old new (rw (append-nil pairs) distinct) (rw empty (IsPermutation-refl [])) went in
-        let moved : IsPermutation pairs new.entries = rw (append-nil pairs) at all.0 in
-        record {
-          entries = moved;
-          len = length_permutation pairs new.entries moved;
-          gets = λ q. lookup_permuted eq laws q pairs new.entries distinct moved;
-          kept = record {
-            unique = distinct_permuted eq laws pairs new.entries moved distinct;
-            hasher = ap (λ s. s.0) all.1;
-            minimum = ap (λ s. s.1) all.1;
-            maximum = ap (λ s. s.2) all.1;
-          };
-        }
+        stays_moved (record old { entries = pairs }) new distinct (rw (append-nil pairs) at all.0) all.1
+
+    -- a map whose pairs are the same is a copy
+    pub copied_slots : (post : Bor K → Bor V → Option (K × V) → Type 0)
+        → ((key : Bor K) (value : Bor V) (pair : K × V) → post key value (Some pair) → pair ≡ (key.now, value.now))
+        → (own new : MapView K V H) → IsUnique eq own → AreMadeOf post own.entries new.entries → new.hasher ≡ own.hasher
+        → new.minimum ≡ min own.minimum (2 ^ 63) → new.maximum ≡ 2 ^ 63 → IsCopy eq own new
+    copied_slots post is own new unique made hasher minimum maximum =
+        let same = same_from_all_zip (IsMadeOf post) own.entries made.pairs made.made (λ x y m. is m.0 m.1 y m.3 ∙ m.2) in
+        stays_moved (record own { minimum = min own.minimum (2 ^ 63); maximum = 2 ^ 63 }) new unique
+        (subst (λ (l : List (K × V)). IsPermutation l new.entries) same made.all) (λ i. (hasher i, minimum i, maximum i))
 
     -- so a map that was empty is a copy, with the hasher and the capacities
     pub copied : (own old new : MapView K V H) → IsUnique eq own → IsEmpty old → old.hasher ≡ own.hasher

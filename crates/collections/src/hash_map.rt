@@ -34,6 +34,7 @@ use bucket_slots::bucket::MAP;
 pub use bucket_table::hash_table::NotInserted;
 use bucket_table::hash_table::{HashTable, ResizeRule};
 use bucket_table::key_hash::{KeyHash, StdHash};
+pub(crate) use copy::clone_pair;
 pub use entry::{Entry, EntryRef, OccupiedEntry, OccupiedEntryRef, VacantEntry, VacantEntryRef};
 pub use iter::{Drain, ExtractIf, IntoIter, IntoKeys, IntoValues, Iter, Keys, Values};
 use std::alloc::{AllocFailed, Global};

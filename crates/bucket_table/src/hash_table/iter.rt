@@ -2,6 +2,9 @@
 //!
 //! Ports `num_entries` and `has_entry` of scc's `src/hash_table.rs`.
 ghost use Rattle.std.specs.Prelude.{◌*◌, ◌≤◌, ◌≡◌, ◌↔◌, ◌<◌, ◌++◌, [], IsTrue, length, ◌^◌, ◌≢◌};
+ghost use Rattle.std.specs.Prelude.{IfErr, IfOk, Some, true};
+ghost use Rattle.std.specs.Borrow.{Bor};
+ghost use Rattle.bucket_table.specs.Map.Cloning.{AreMadeOf};
 ghost use Rattle.bucket_table.specs.Views.ArraysView.{pairs_of, tombstones_of, IsOneMap};
 ghost use Rattle.bucket_table.specs.Map.Counting.{CountsAndResizes, IsHeldBy, counted_to};
 ghost use Rattle.bucket_table.specs.Map.MapState.{KeepsPairs, state_of};
@@ -23,6 +26,7 @@ use crate::pair_count::PairCount;
 use crate::retain::retain_each_in;
 use bucket_slots::bucket::{Generation, INDEX};
 use bucket_slots::lru::LruList;
+use std::alloc::Global;
 
 impl<K: Eq + Drop, V: Drop, H: KeyHash<K>, L: LruList + Drop, const TYPE: u8> HashTable<
     K,
@@ -299,5 +303,55 @@ impl<K: Eq, V, H: KeyHash<K>, L: LruList, const TYPE: u8> HashTable<K, V, H, L, 
     {
         taken.swap_arrays(&mut self.arrays);
         self.count = PairCount::new(self.arrays.count());
+    }
+}
+
+impl<K: Eq + Drop, V: Drop, H: KeyHash<K>, L: LruList + Drop, const TYPE: u8> HashTable<
+    K,
+    V,
+    H,
+    L,
+    TYPE,
+> {
+    /// Returns a table with the same capacities and slots and another hasher. Its pairs are those
+    /// that `make` returns for this table's pairs, each in the bucket of its original.
+    ///
+    /// # Errors
+    ///
+    /// The hasher is returned, and what was made is dropped, if there is no current array, or an
+    /// old one; if `make` returns `None`; if a pair's home is another bucket; or if allocation
+    /// fails.
+    ///
+    /// O(slots).
+    pub fn cloned_by<F: Fn(&K, &V) -> Option<(K, V)>>(
+        &self,
+        alloc: Global,
+        hasher: H,
+        make: &F,
+    ) -> Result<Self, H>
+        requires callable { F.IsAlwaysCallable make.now }
+        requires equal { (key : Bor K) (value : Bor V) (pair : K × V)
+            → F.post make.now key value (Some pair)
+            → K.eq key.now pair.0 ≡ true }
+        ensures pairs { IfOk result (λ copy.
+            AreMadeOf (λ key value made. F.post make.now key value made)
+            (pairs_of self.now.arrays) (pairs_of copy.arrays)) }
+        ensures hasher { IfOk result (λ copy. copy.hasher ≡ hasher) }
+        ensures settings { IfOk result (λ copy. (copy.arrays.minimum ≡ self.now.arrays.minimum)
+            × (copy.arrays.maximum ≡ self.now.arrays.maximum)) }
+        ensures bounded { IfOk result (λ copy. copy.arrays.minimum ≤ copy.arrays.maximum) }
+        ensures slots { IfOk result (λ copy.
+            length copy.arrays.current ≡ length self.now.arrays.current) }
+        ensures hasher_returned { IfErr result (λ back. back ≡ hasher) }
+    {
+        let Some(arrays) = self.arrays.cloned_by(alloc, &hasher, make) else {
+            return Err(hasher);
+        };
+        arrays.fact_sound();
+        Ok(HashTable {
+            hasher,
+            arrays,
+            count: PairCount::new(self.count.get()),
+        })
     }
 }

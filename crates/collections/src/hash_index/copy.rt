@@ -8,6 +8,7 @@ ghost use Rattle.collections.specs.Maps.{IsEmpty, map_of};
 
 use crate::default_hash::DefaultHash;
 use crate::hash_index::HashIndex;
+use crate::hash_map::clone_pair;
 use crate::sizing::minimum_for;
 use bucket_table::key_hash::KeyHash;
 use std::alloc::{AllocError, Global};
@@ -64,11 +65,9 @@ impl<K: Eq + Clone, V: Clone, H: KeyHash<K>> HashIndex<K, V, H> {
             (key.now, value.now) (map_of self.new)
             × (tombstones_of self.old.arrays ≡ [] → tombstones_of self.new.arrays ≡ [])) }
     {
-        let own = key.clone()?;
-        if !key.eq(&own) {
+        let Some((own, held)) = clone_pair(key, value) else {
             return Err(AllocError);
-        }
-        let held = value.clone()?;
+        };
         let Ok(_added) = self.insert(own, held) else {
             return Err(AllocError);
         };

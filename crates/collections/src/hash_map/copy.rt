@@ -1,7 +1,10 @@
 //! Copies of a map, and empty maps for `mem::try_take` and for an entry's `or_default`. Allocation
 //! may fail.
-ghost use Rattle.std.specs.Prelude.{IfOk, IsOk, OnOk, ◌≡◌, None};
-ghost use Rattle.collections.specs.Clones.{IsClone, PutsClone};
+ghost use Rattle.std.specs.Prelude.{IfErr, IfOk, IfSome, IsOk, OnOk, ◌≡◌, ◌^◌, None, Some, min};
+ghost use Rattle.std.specs.Prelude.{true};
+ghost use Rattle.std.specs.Borrow.{Bor};
+ghost use Rattle.bucket_table.specs.Map.Cloning.{AreMadeOf};
+ghost use Rattle.collections.specs.Clones.{IsClone, IsClonedPair, PutsClone};
 ghost use Rattle.collections.specs.Maps.{IsEmpty, get};
 ghost use Rattle.std.specs.List.{FoldsTo};
 ghost use Rattle.collections.specs.Changes.{Adds};
@@ -10,6 +13,9 @@ ghost use Rattle.collections.specs.Collecting.{empty_map};
 
 use crate::default_hash::DefaultHash;
 use crate::hash_map::HashMap;
+use crate::room::Fits;
+use crate::sizing::LEAST_CAPACITY;
+use bucket_table::hash_table::MAXIMUM_CAPACITY_LIMIT;
 use bucket_table::key_hash::KeyHash;
 use std::alloc::{AllocError, Global};
 use std::default::{Emptied, MadeWith};
@@ -31,8 +37,28 @@ impl<K: Eq + Clone, V: Clone, H: KeyHash<K> + Clone> HashMap<K, V, H> {
         ensures succeeds { IsEmpty self.now → H.is_infallible self.now.hasher → IsOk result }
     {
         self.room.fact_fits();
-        let minimum = self.table.minimum_capacity();
+        self.table.fact_sound();
         let hasher = self.table.hasher().clone()?;
+        let make = |key: &K, value: &V|
+            ensures { IfSome result (λ pair. IsClonedPair K.eq K.is_clone V.is_clone
+                (key.now, value.now) pair) }
+        { clone_pair(key, value) };
+        match self.copy_slots(alloc, hasher, &make) {
+            Ok(copy) => Ok(copy),
+            Err(hasher) => self.clone_pairs(alloc, hasher),
+        }
+    }
+
+    /// Returns a clone with this clone of the hasher, into which clones of the pairs are inserted
+    /// one by one.
+    fn clone_pairs(&self, alloc: Global, hasher: H) -> Result<Self, AllocError>
+        requires { H.is_clone self.now.hasher hasher }
+        ensures copy { IfOk result (λ copy. IsClone K.eq K.is_clone V.is_clone H.is_clone self.now
+            copy) }
+        ensures succeeds { IsEmpty self.now → IsOk result }
+    {
+        self.room.fact_fits();
+        let minimum = self.table.minimum_capacity();
         let mut copy = HashMap::with_room(alloc, hasher, minimum, self.len());
         let mut pairs = self.iter();
         while let Some(pair) = pairs.next() {
@@ -49,16 +75,79 @@ impl<K: Eq + Clone, V: Clone, H: KeyHash<K>> HashMap<K, V, H> {
         ensures { OnOk result
             (PutsClone K.eq K.is_clone V.is_clone self.old (key.now, value.now) self.new) }
     {
-        let own = key.clone()?;
-        if !key.eq(&own) {
+        let Some((own, held)) = clone_pair(key, value) else {
             return Err(AllocError);
-        }
-        let held = value.clone()?;
+        };
         match self.upsert(own, held) {
             Ok(_earlier) => Ok(()),
             Err(_) => Err(AllocError),
         }
     }
+}
+
+impl<K: Eq + Drop, V: Drop, H: KeyHash<K>> HashMap<K, V, H> {
+    /// Returns a map with another hasher and as many slots. Its pairs are those that `make` returns
+    /// for this map's pairs, each in the bucket of its original.
+    ///
+    /// # Errors
+    ///
+    /// The hasher is returned if the map is empty, has old slots, or uses less than an eighth of
+    /// its slots and could do with fewer; if a pair's hash belongs in another bucket; if `make`
+    /// returns `None`; or if allocation fails.
+    fn copy_slots<F: Fn(&K, &V) -> Option<(K, V)>>(
+        &self,
+        alloc: Global,
+        hasher: H,
+        make: &F,
+    ) -> Result<Self, H>
+        requires callable { F.IsAlwaysCallable make.now }
+        requires equal { (key : Bor K) (value : Bor V) (pair : K × V)
+            → F.post make.now key value (Some pair)
+            → K.eq key.now pair.0 ≡ true }
+        ensures pairs { IfOk result (λ copy.
+            AreMadeOf (λ key value made. F.post make.now key value made) self.now.entries
+            copy.entries) }
+        ensures hasher { IfOk result (λ copy. copy.hasher ≡ hasher) }
+        ensures minimum { IfOk result (λ copy. copy.minimum ≡ min self.now.minimum (2 ^ 63)) }
+        ensures maximum { IfOk result (λ copy. copy.maximum ≡ 2 ^ 63) }
+        ensures hasher_returned { IfErr result (λ back. back ≡ hasher) }
+    {
+        self.room.fact_fits();
+        let slots = self.table.num_slots();
+        let is_sparse = slots > LEAST_CAPACITY && slots / 8 > self.table.len();
+        if self.table.is_empty() || is_sparse {
+            return Err(hasher);
+        }
+        if self.table.maximum_capacity() != MAXIMUM_CAPACITY_LIMIT {
+            return Err(hasher);
+        }
+        match self.table.cloned_by(alloc, hasher, make) {
+            Ok(table) => Ok(HashMap {
+                table,
+                room: Fits::new(),
+            }),
+            Err(hasher) => Err(hasher),
+        }
+    }
+}
+
+/// Returns clones of a key and a value. Returns `None` if one of them can't be made, or the key's
+/// clone isn't equal to it.
+#[inline(always)]
+pub(crate) fn clone_pair<K: Eq + Clone, V: Clone>(key: &K, value: &V) -> Option<(K, V)>
+    ensures { IfSome result (λ pair. IsClonedPair K.eq K.is_clone V.is_clone (key.now, value.now)
+        pair) }
+{
+    let Ok(own) = key.clone() else {
+        return None;
+    };
+    if !key.eq(&own) {
+        return None;
+    }
+    let Ok(held) = value.clone() else {
+        return None;
+    };
+    Some((own, held))
 }
 
 /// Like `try_clone`, with memory from the map's own allocator, so that a struct with a map can
@@ -113,8 +202,15 @@ impl<K: Eq + Copy, V: Copy, H: KeyHash<K> + Copy> HashMap<K, V, H> {
     {
         self.room.fact_fits();
         self.table.fact_sound();
+        let make = |key: &K, value: &V|
+            ensures { result ≡ Some (key.now, value.now) }
+        { Some((*key, *value)) };
+        let hasher = match self.copy_slots(alloc, *self.table.hasher(), &make) {
+            Ok(copy) => return Ok(copy),
+            Err(hasher) => hasher,
+        };
         let minimum = self.table.minimum_capacity();
-        let roomy = HashMap::with_room(alloc, *self.table.hasher(), minimum, self.len());
+        let roomy = HashMap::with_room(alloc, hasher, minimum, self.len());
         let mut copy = Some(roomy);
         self.pour(&mut copy);
         match copy {

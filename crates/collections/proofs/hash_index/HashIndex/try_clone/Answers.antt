@@ -34,9 +34,9 @@ returns-clause-copy g c =
     let first = c.with_minimum-copy in
     let hasher : c.hasher.result.now ≡ c.args.self.now.hasher = rw (← c.self.view_is) c.hasher.ensures in
     let whole = cloned g.K.PartialEq.eq g.K.Clone.is_clone g.V.Clone.is_clone g.met.K.Eq.laws g.H.Clone.is_clone
-    (with_first c.args.self.now first.result) (map_of first.result) (map_of c.loop-pair.copy) c.loop-pair.pairs c.hasher.result.now
-    c.in_ok-hasher.hasher c.loop-pair.invariant.0 c.in_default.ensures.steps.0 c.iter-pairs.ensures.unique first.ensures.empty hasher
-    c.in_ok-hasher.ensures.cases first.ensures.hasher (omega (arith, first.ensures.minimum)) first.ensures.maximum in (
+    (with_first c.args.self.now first.result) (map_of first.result) (map_of c.loop-pair.copy) c.loop-pair.pairs
+    c.in_ok-hasher.hasher c.loop-pair.invariant.0 c.in_default.ensures.steps.0 c.iter-pairs.ensures.unique first.ensures.empty
+    (rw hasher at c.in_ok-hasher.ensures.cases) first.ensures.hasher (omega (arith, first.ensures.minimum)) first.ensures.maximum in (
       lowered g.K.PartialEq.eq g.K.Clone.is_clone g.V.Clone.is_clone g.H.Clone.is_clone (map_of c.args.self.now) c.loop-pair.copy
           c.set_minimum.new.self first.result.arrays.minimum c.minimum_capacity-minimum.result whole c.set_minimum.ensures
           (rw (← c.self.view_is) c.minimum_capacity-minimum.ensures),

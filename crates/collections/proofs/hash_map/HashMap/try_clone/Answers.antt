@@ -1,42 +1,18 @@
-use Rattle.std.proofs.Common.{◌≡◌, ◌∙◌, ap, subst, sym}
-use Rattle.std.specs.Prelude.{◌^◌, min}
-use Rattle.collections.proofs.Cloning.{IsCloning, cloned, none_cloned, one_more_cloned, some_left}
+use Rattle.std.proofs.Common.{◌≡◌}
+use Rattle.collections.specs.Maps.{IsUnique}
+use Rattle.collections.proofs.Cloning.{cloned_slots}
 use Rattle.collections.proofs.hash_map.HashMap.try_clone.Goals as goal
 
-pub loop-pair-init : goal.loop-pair-init
-loop-pair-init g c =
+pub returns-in-Ok-clause-copy : goal.returns-in-Ok-clause-copy
+returns-in-Ok-clause-copy g c =
     let own = c.args.self.now in
-    let first = c.with_room-copy in
-    subst (λ left. IsCloning g.K.PartialEq.eq g.K.Clone.is_clone g.V.Clone.is_clone own first.result first.result left)
-    (sym c.iter-pairs.ensures.rest)
-    (none_cloned g.K.PartialEq.eq g.K.Clone.is_clone g.V.Clone.is_clone own first.result first.ensures.empty)
-
-pub loop-pair-preserved : goal.loop-pair-preserved
-loop-pair-preserved g c =
-    let pair = c.in-Some.pair in
-    let put = c.in_ok-put_clone.ensures in
-    one_more_cloned g.K.PartialEq.eq g.K.Clone.is_clone g.V.Clone.is_clone c.args.self.now c.with_room-copy.result c.loop-pair.copy
-    c.put_clone.new.self c.loop-pair.pairs c.next.new.self (pair.0.now, pair.1.now) put.pair c.loop-pair.invariant c.in-Some.ensures.steps
-    put.clone put.puts
-
-pub returns-clause-copy : goal.returns-clause-copy
-returns-clause-copy g c =
-    let own = c.args.self.now in
-    let made = c.with_room-copy in
+    let unique : IsUnique g.K.PartialEq.eq own = rw (← c.self.view_is) c.fact_sound.ensures.one_map.distinct in
     let hasher : c.hasher.result.now ≡ own.hasher = rw (← c.self.view_is) c.hasher.ensures in
-    let minimum : made.result.minimum ≡ min own.minimum (2 ^ 63) =
-    rw (← c.self.view_is) (made.ensures.minimum ∙ ap (λ m. min m (2 ^ 63)) c.minimum_capacity-minimum.ensures) in
-    cloned g.K.PartialEq.eq g.K.Clone.is_clone g.V.Clone.is_clone g.met.K.Eq.laws g.H.Clone.is_clone own made.result c.loop-pair.copy
-    c.loop-pair.pairs c.hasher.result.now c.in_ok-hasher.hasher c.loop-pair.invariant c.in_default.ensures.steps.0
-    c.iter-pairs.ensures.unique made.ensures.empty hasher c.in_ok-hasher.ensures.cases made.ensures.hasher minimum made.ensures.maximum
+    cloned_slots g.K.PartialEq.eq g.K.Clone.is_clone g.V.Clone.is_clone g.met.K.Eq.laws g.H.Clone.is_clone _ own c.in-Ok.copy
+    c.in_ok-hasher.hasher (λ key value pair made. made) c.in-Ok.ensures.pairs unique (rw hasher at c.in_ok-hasher.ensures.cases)
+    c.in-Ok.ensures.hasher c.in-Ok.ensures.minimum c.in-Ok.ensures.maximum
 
 pub returns-in_err-hasher-clause-succeeds : goal.returns-in_err-hasher-clause-succeeds
 returns-in_err-hasher-clause-succeeds g c =
     let hasher : c.hasher.result.now ≡ c.args.self.now.hasher = rw (← c.self.view_is) c.hasher.ensures in
     λ empty sure. absurd (c.in_err-hasher.ensures.cases (rw hasher sure))
-
-pub returns-in_err-put_clone-clause-succeeds : goal.returns-in_err-put_clone-clause-succeeds
-returns-in_err-put_clone-clause-succeeds g c =
-    let pair = c.in-Some.pair in
-    λ empty sure. absurd (some_left g.K.PartialEq.eq g.K.Clone.is_clone g.V.Clone.is_clone c.args.self.now c.with_room-copy.result
-    c.loop-pair.copy c.loop-pair.pairs c.next.new.self (pair.0.now, pair.1.now) c.loop-pair.invariant c.in-Some.ensures.steps empty)

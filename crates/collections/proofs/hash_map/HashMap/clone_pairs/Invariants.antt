@@ -1,7 +1,7 @@
 -- Clones of the pairs so far are inserted.
 use Rattle.std.proofs.Common.{length}
 use Rattle.collections.proofs.Cloning.{IsCloning}
-use Rattle.collections.proofs.hash_map.HashMap.try_clone.Given as goal
+use Rattle.collections.proofs.hash_map.HashMap.clone_pairs.Given as goal
 
 abbrev pub invariant-loop-pair : goal.invariant-loop-pair
 invariant-loop-pair g l =
