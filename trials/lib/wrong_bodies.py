@@ -116,19 +116,34 @@ def is_of(label, goal):
     return goal.startswith("returns") and (goal + "-clause-returns").split("-clause-")[1] == label
 
 
-def goals_refused(name, function, said):
-    """The goals of a function for which there is no proof, or a wrong one."""
+def goals_refused(name, edit, said, noted):
+    """The goals of an edit's function for which there is no proof, or a wrong one."""
+    function = edit.function
     path = re.escape(function.replace("::", "/"))
     without = re.compile(rf"fn {name}::(?:\S+::)?{re.escape(function)}: no proof: .*did not prove (.*)")
     wrong = re.compile(rf"\./proofs/(?:\S+/)?{path}/Answers\.antt:\d+:\d+: error: (`[^`]+`)")
     # (An answer that names what the edit took away says nothing of a goal.)
     lines = [it for it in said.splitlines() if not re.search("has no `|has no field|is not in scope", it)]
     found = [it for line in lines for it in (without.match(line), wrong.match(line)) if it]
-    return {goal for it in found for goal in re.findall(r"`([^`\s]+)`", it[1])}
+    here = {(file, function.split("::")[-1]) for file, _, _ in edit.changes}
+    at_places = {goal for file, around, goal in noted if (file, around) in here}
+    return at_places | {goal for it in found for goal in re.findall(r"`([^`\s]+)`", it[1])}
+
+
+def goals_noted(folder, said):
+    """The goals that weren't proved at a place of a source, with the file and the function around the place."""
+    places = re.findall(r"^note: (src/\S+\.rt):(\d+):(\d+): it is not proved .*\(`([^`]+)`\)", said, re.M)
+    found = set()
+    for file, line, column, goal in places:
+        lines = (folder / file).read_text().splitlines()
+        before = "\n".join([*lines[: int(line) - 1], lines[int(line) - 1][: int(column)]])
+        around = ["", *re.findall(r"\bfn (\w+)", before)][-1]
+        found.add((file, around, goal))
+    return found
 
 
 def check(root, name, words, edits):
-    """What the prover says of the functions of these edits in a copy of the crate."""
+    """What the prover says of the functions of these edits in a copy of the crate, and the goals that it notes."""
     with tempfile.TemporaryDirectory() as room:
         folder = Path(room) / name
         for part in PARTS:
@@ -138,7 +153,8 @@ def check(root, name, words, edits):
             edit.apply(folder)
         only = [word for edit in edits for word in ("--only", edit.function)]
         ran = subprocess.run([*words, *only], cwd=folder, stdin=subprocess.DEVNULL, capture_output=True, text=True)
-    return ran.stdout + ran.stderr
+        said = ran.stdout + ran.stderr
+        return said, goals_noted(folder, said)
 
 
 def try_crate(root, kit, name, crates, edits):
@@ -149,8 +165,8 @@ def try_crate(root, kit, name, crates, edits):
         while waiting:
             begun = time.monotonic()
             together = list({edit.function: edit for edit in reversed(waiting)}.values())
-            said = check(root, name, words, together)
-            goals = {edit.name: goals_refused(name, edit.function, said) for edit in together}
+            said, noted = check(root, name, words, together)
+            goals = {edit.name: goals_refused(name, edit, said, noted) for edit in together}
             done = [edit for edit in together if any(is_of(edit.label, it) for it in goals[edit.name])]
             for edit in done:
                 print(f"{name}/{edit.name}: {edit.label} of {edit.function} is refused")
@@ -158,8 +174,9 @@ def try_crate(root, kit, name, crates, edits):
             if not done:
                 # (With others, it may only be hidden.)
                 done = together[:1]
-                said = said if len(together) == 1 else check(root, name, words, done)
-                found = goals_refused(name, done[0].function, said)
+                if len(together) > 1:
+                    said, noted = check(root, name, words, done)
+                found = goals_refused(name, done[0], said, noted)
                 is_done = any(is_of(done[0].label, it) for it in found)
                 refused += is_done
                 what = "is refused" if is_done else f"ISN'T REFUSED, but {sorted(found) or said[-900:]}"
